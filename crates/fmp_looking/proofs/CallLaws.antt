@@ -7,7 +7,6 @@ use Rattle.fmp_base.specs.declared.events.Line.{Line}
 use Rattle.fmp_base.specs.Meanings.{World}
 use Rattle.fmp_base.specs.Steps.{Reaction, Nothing, Did, Kept}
 use Rattle.fmp_base.specs.Systems.{SystemTables}
-use Rattle.fmp_expect.specs.declared.checker.BrokenExpectation.{BrokenExpectation}
 use Rattle.fmp_expect.specs.Judges.{broken_after, broken_along, first_by}
 use Rattle.fmp_expect.specs.Parts.{or_else}
 use Rattle.fmp_image_bytes.specs.Images.{ImageTables}

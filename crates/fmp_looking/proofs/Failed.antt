@@ -18,15 +18,17 @@ use Rattle.fmp_looking.specs.CallSentences.{AreSentencesOf, breaks_by}
 use Rattle.fmp_looking.specs.Looks.{ShowsBroken}
 use Rattle.fmp_looking.specs.Tested.{HaveMetText, IsFailedTest, subject_of}
 
-pub is_failed : (i : ImageTables) (bound : ℕ) (plan : RunPlan) (seeds : ℕ) (src name text : List ℕ) (sys : SystemTables) (sentences : RunSentences)
-    (expected : List Expected) (nevers : List CallNever) (trial : FailedTrial) (t : FailedTest)
+pub is_failed : (i : ImageTables) (bound : ℕ) (plan : RunPlan) (seeds : ℕ) (src name text : List ℕ)
+    (sys : SystemTables) (sentences : RunSentences) (expected : List Expected)
+    (nevers : List CallNever) (trial : FailedTrial) (t : FailedTest)
     → AreSentencesOf i sys src text sentences → expected ≡ sentences.expected.items → nevers ≡ sentences.nevers.items
     → IsFound code_meaning breaks_by (subject_of i bound expected nevers) plan seeds trial → t.trial ≡ trial
     → t.steps.items ≡ steps_text trial.run.steps.items
     → ShowsBroken (reaction_of code_meaning) (kernel_after i bound []) trial.run.steps.items name text trial.run.broken
     t.report.items
     → IsFailedTest i sys bound plan seeds src name text t
-is_failed i bound plan seeds src name text sys sentences expected nevers trial t read alike same found is printed reported =
+is_failed i bound plan seeds src name text sys sentences expected nevers trial t read alike same found is printed
+    reported =
     record {
       sentences = sentences;
       read = read;
@@ -38,8 +40,9 @@ is_failed i bound plan seeds src name text sys sentences expected nevers trial t
           (λ (ns : List CallNever). IsFound code_meaning breaks_by (subject_of i bound sentences.expected.items ns)
           plan seeds trial)
           same
-          (subst (λ (es : List Expected). IsFound code_meaning breaks_by (subject_of i bound es nevers) plan seeds trial) alike
-          found));
+          (subst
+          (λ (es : List Expected). IsFound code_meaning breaks_by (subject_of i bound es nevers) plan seeds trial)
+          alike found));
       printed = printed ∙ ap (λ (x : FailedTrial). steps_text x.run.steps.items) (sym is);
       reported =
           subst
@@ -47,8 +50,8 @@ is_failed i bound plan seeds src name text sys sentences expected nevers trial t
           name text x.run.broken t.report.items) (sym is) reported;
     }
 
-pub have_met : (i : ImageTables) (bound : ℕ) (plan : RunPlan) (seeds : ℕ) (src text : List ℕ) (sys : SystemTables) (sentences : RunSentences)
-    (expected : List Expected) (nevers : List CallNever)
+pub have_met : (i : ImageTables) (bound : ℕ) (plan : RunPlan) (seeds : ℕ) (src text : List ℕ) (sys : SystemTables)
+    (sentences : RunSentences) (expected : List Expected) (nevers : List CallNever)
     → AreSentencesOf i sys src text sentences → expected ≡ sentences.expected.items → nevers ≡ sentences.nevers.items
     → AllHaveMet code_meaning breaks_by (subject_of i bound expected nevers) plan 0 seeds
     → HaveMetText i sys bound plan seeds src text
@@ -61,6 +64,7 @@ have_met i bound plan seeds src text sys sentences expected nevers read alike sa
           (λ (ns : List CallNever). AllHaveMet code_meaning breaks_by (subject_of i bound sentences.expected.items ns)
           plan 0 seeds)
           same
-          (subst (λ (es : List Expected). AllHaveMet code_meaning breaks_by (subject_of i bound es nevers) plan 0 seeds) alike
-          met);
+          (subst
+          (λ (es : List Expected). AllHaveMet code_meaning breaks_by (subject_of i bound es nevers) plan 0 seeds)
+          alike met);
     }

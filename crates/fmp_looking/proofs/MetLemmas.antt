@@ -1,6 +1,6 @@
 -- The first run that fails, of seeds that are tried in parts or in rounds.
 use Rattle.std.proofs.Common.{◌≡◌, ◌∙◌, ◌+◌, ◌-◌, ◌*◌, ◌<◌, ◌≤◌, ℕ, List, [], ◌∷◌, Option, Some, None, Result, Ok, Err}
-use Rattle.std.proofs.Common.{Bool, IfOk, ap, arith, false, inl, inr, length, min, subst, suc, sym}
+use Rattle.std.proofs.Common.{IfOk, ap, arith, false, inl, inr, length, min, subst, suc, sym}
 use Rattle.std.proofs.lemmas.Bool.{cases_order}
 use Rattle.std.proofs.lemmas.Grind.{div_ceil_times}
 use Rattle.std.specs.Int.{div_ceil}
@@ -9,8 +9,8 @@ use Rattle.fmp_instructions.specs.Machine.{code_meaning}
 use Rattle.fmp_trials.specs.declared.seeds.Seeds.{Seeds}
 use Rattle.fmp_trials.specs.declared.testing.FailedTrial.{FailedTrial}
 use Rattle.fmp_trials.specs.declared.testing.FailingSeed.{FailingSeed}
-use Rattle.fmp_trials.specs.Drawn.{AllHaveMet, HasMet, any_of_end}
-use Rattle.fmp_trials.specs.Found.{IsFailingSeed, IsFound, IsShortened}
+use Rattle.fmp_trials.specs.Drawn.{AllHaveMet, any_of_end}
+use Rattle.fmp_trials.specs.Found.{IsFound, IsShortened}
 use Rattle.fmp_trials.specs.Parts.{edge, first_of}
 use Rattle.fmp_looking.specs.declared.trying.Trials.{Trials}
 use Rattle.fmp_looking.specs.CallSentences.{breaks_by}
@@ -96,7 +96,8 @@ module _ (t : Trials) where
         → AreFrom k (r ∷ found) → AreFrom (k + 1) found
     after_one k r found all = λ j d few.
         subst
-        (λ (a : ℕ). IfOk (slice_index_or found j d) (IsFirstOf t (edge seeds parts a) (edge seeds parts (k + 1 + j + 1))))
+        (λ (a : ℕ). IfOk (slice_index_or found j d)
+        (IsFirstOf t (edge seeds parts a) (edge seeds parts (k + 1 + j + 1))))
         (later k j)
         (subst
         (λ (z : ℕ). IfOk (slice_index_or found j d)
@@ -120,7 +121,8 @@ module _ (t : Trials) where
         (ap (λ (n : ℕ). edge seeds parts n) (omega (arith, end)) ∙ last_edge) met
     first_from k (Err e ∷ found) all end met = tt
     first_from k (Ok (Some f) ∷ found) all end met =
-        let is : IsFirstOf t (edge seeds parts k) (edge seeds parts (k + 1)) (Some f) = here k (Ok (Some f)) found all in
+        let is : IsFirstOf t (edge seeds parts k) (edge seeds parts (k + 1)) (Some f) =
+        here k (Ok (Some f)) found all in
         let after : edge seeds parts k < f.seed = is.after in
         let high : f.seed ≤ edge seeds parts (k + 1) = is.last in
         let most : edge seeds parts (k + 1) ≤ seeds.last = within seeds.before seeds.last ((k + 1) * each) in

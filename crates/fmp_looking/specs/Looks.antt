@@ -58,7 +58,8 @@ abbrev pub broken_head : (name text : List ℕ) → BrokenExpectation → List �
 broken_head name text b =
     name
     ++ (codes ":"
-    ++ (decimal b.line ++ (codes ": event " ++ (decimal b.event ++ (codes ": " ++ (line_at text b.line ++ codes "\n"))))))
+    ++ (decimal b.line
+    ++ (codes ": event " ++ (decimal b.event ++ (codes ": " ++ (line_at text b.line ++ codes "\n"))))))
 
 -- the same, and then the lines of that event
 pub record ShowsBroken {B C X : Type 0} (reaction : KernelView B C → X → Reaction C) (k : KernelView B C) (xs : List X)

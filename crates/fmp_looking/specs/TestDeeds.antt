@@ -1,5 +1,5 @@
 -- What a test does outside of the program, and how it ends.
-use Rattle.std.specs.Prelude.{ℕ, ◌≡◌, ◌⊎◌, ◌++◌, ◌<◌, ◌≤◌, Bool, true, false, IfSome, List, Option, Some, None, map}
+use Rattle.std.specs.Prelude.{ℕ, ◌≡◌, ◌⊎◌, ◌++◌, ◌≤◌, Bool, true, false, IfSome, List, Option, Some, None, map}
 use Rattle.std.specs.Prelude.{[], ◌∷◌, option_map}
 use Rattle.std.specs.Str.Lossy.{utf8_lossy}
 use Rattle.fmp_base.specs.Systems.{tables_of}

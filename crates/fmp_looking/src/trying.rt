@@ -43,8 +43,8 @@ pub fn bench_of<'a>(alloc: Global, trials: &Trials<'a>) -> Result<ImageBench<'a>
     Ok(Bench::new(start, kernel, trials.expected, trials.judge))
 }
 
-/// The first of the random runs of the seeds from 1 to this one, of an image, that fails what is expected, made shorter.
-/// The runs of the seeds before it, or of all where there is none, meet that. `AllocError` if memory runs out.
+/// The first of the random runs of an image, of the seeds from 1 to this one, that fails what is expected, made
+/// shorter. The runs of the seeds before it, or of all where there is none, meet that. `AllocError` if memory runs out.
 pub fn failed_trial_of(
     alloc: Global,
     trials: &Trials<'_>,

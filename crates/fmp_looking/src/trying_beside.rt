@@ -130,9 +130,9 @@ fn first_failing_beside<R: Threads + Sync>(
     Ok(None)
 }
 
-/// The first of the random runs of the seeds from 1 to this one, of an image, that fails what is expected, made shorter,
-/// where this many threads make them. The runs of the seeds before it, or of all where there is none, meet that.
-/// `AllocError` if memory runs out.
+/// The first of the random runs of an image, of the seeds from 1 to this one, that fails what is expected, made
+/// shorter, where this many threads make them. The runs of the seeds before it, or of all where there is none, meet
+/// that. `AllocError` if memory runs out.
 pub fn failed_trial_beside<R: Threads + Sync>(
     alloc: Global,
     rt: &R,

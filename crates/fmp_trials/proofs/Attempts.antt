@@ -1,5 +1,5 @@
 -- What an attempt to make a run shorter leaves.
-use Rattle.std.proofs.Common.{◌≡◌, ◌∙◌, ℕ, ◌+◌, ◌<◌, ◌≤◌, ◌^◌, ◌++◌, List, Option, Some, Bool, true, false}
+use Rattle.std.proofs.Common.{◌≡◌, ◌∙◌, ℕ, ◌+◌, ◌<◌, ◌≤◌, ◌^◌, List, Option, Some, Bool, true, false}
 use Rattle.std.proofs.Common.{ap, arith, drop}
 use Rattle.std.proofs.Common.{⊎_elim, length, refl, subst, sym, take, length-append, length-drop}
 use Rattle.std.proofs.lemmas.List.{length-take-le}

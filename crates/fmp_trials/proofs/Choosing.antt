@@ -32,11 +32,15 @@ module _ (takes : ℕ → Bool) where
   first_or_rest p end before = ap (λ (n : ℕ). find takes (range_with_len p n)) (one_fewer p end before)
 
   pub found_here : (p end : ℕ) → p < end → takes p ≡ true → find takes (range_with_len p (end - p)) ≡ Some p
-  found_here p end before h = first_or_rest p end before ∙ ap (λ (b : Bool). cond b (Some p) (find takes (range_with_len (p + 1) (end - (p + 1))))) h
+  found_here p end before h =
+      first_or_rest p end before
+      ∙ ap (λ (b : Bool). cond b (Some p) (find takes (range_with_len (p + 1) (end - (p + 1))))) h
 
   pub found_later : (p end : ℕ) → p < end → takes p ≡ false
       → find takes (range_with_len p (end - p)) ≡ find takes (range_with_len (p + 1) (end - (p + 1)))
-  found_later p end before h = first_or_rest p end before ∙ ap (λ (b : Bool). cond b (Some p) (find takes (range_with_len (p + 1) (end - (p + 1))))) h
+  found_later p end before h =
+      first_or_rest p end before
+      ∙ ap (λ (b : Bool). cond b (Some p) (find takes (range_with_len (p + 1) (end - (p + 1))))) h
 
   pub found_nowhere : (p end : ℕ) → end ≤ p → find takes (range_with_len p (end - p)) ≡ None
   found_nowhere p end after = ap (λ (n : ℕ). find takes (range_with_len p n)) (none_left p end after)
@@ -99,8 +103,9 @@ module _ (takes : Event → Bool) (r : InterruptRate) (rates : List InterruptRat
   it_comes h k = ap by (and_true (comes c r.every) (takes (event.Int r.interrupt)) h k)
 
 -- the interrupts from a place on
-module _ (takes : Event → Bool) (rates : List InterruptRate) (i : ℕ) (d : InterruptRate) (c after : Choices) (came : Bool)
-    (left : Option Event × Choices) (there : i < length rates) (so_far : interrupt_of takes (drop i rates) c ≡ left)
+module _ (takes : Event → Bool) (rates : List InterruptRate) (i : ℕ) (d : InterruptRate) (c after : Choices)
+    (came : Bool) (left : Option Event × Choices) (there : i < length rates)
+    (so_far : interrupt_of takes (drop i rates) c ≡ left)
     (is : came ≡ comes c (get_or rates i d).every) (past_is : after ≡ past c) where
   abbrev rate : InterruptRate
   rate = get_or rates i d

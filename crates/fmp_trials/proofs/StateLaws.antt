@@ -21,7 +21,8 @@ use Rattle.fmp_trials.specs.Lines.{goes_by_states, states_after, with_state_afte
 use Rattle.fmp_trials.specs.Verdicts.{states_in, verdict}
 use Rattle.fmp_trials.proofs.AlongLaws.{fails_also, or_assoc, or_false, some_broken, some_if, some_or}
 
-line_breaks : (e : Sentence) → goes_by_states e ≡ true → (before : List Seen) (l : Line) → breaks e before (OfLine l) ≡ false
+line_breaks : (e : Sentence) → goes_by_states e ≡ true → (before : List Seen) (l : Line)
+    → breaks e before (OfLine l) ≡ false
 line_breaks (sentence.Always c) is before l = refl
 line_breaks (sentence.Never h) is before l = absurd (cc)
 line_breaks (sentence.Before a b) is before l = absurd (cc)

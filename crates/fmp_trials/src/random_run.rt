@@ -1,6 +1,6 @@
 //! Random runs, which are judged as they go.
-ghost use Rattle.std.specs.Prelude.{◌≡◌, ◌+◌, ◌-◌, ◌<◌, ◌≤◌, ◌^◌, [], List, None, IfNone, IfOk, IfSome, is_some, length};
-ghost use Rattle.std.specs.Prelude.{true, false};
+ghost use Rattle.std.specs.Prelude.{◌≡◌, ◌+◌, ◌-◌, ◌<◌, ◌≤◌, ◌^◌, [], List, None, IfNone, IfOk, IfSome, is_some};
+ghost use Rattle.std.specs.Prelude.{false, length, true};
 ghost use Rattle.std.specs.List.{find, range_with_len};
 ghost use Rattle.fmp_base.specs.declared.events.Event.TheVariants as event;
 ghost use Rattle.fmp_expect.specs.declared.expectation.Expected.{Expected};

@@ -147,8 +147,8 @@ pub fn random_steps<B: Body, J: LineJudge<B>>(
     Ok(run.steps)
 }
 
-/// The first of the random runs of the seeds from 1 to this one that fails an expectation, made shorter. The runs of the
-/// seeds before it, or of all where there is none, meet all expectations, if none of these is of the end of a run.
+/// The first of the random runs of the seeds from 1 to this one that fails an expectation, made shorter. The runs of
+/// the seeds before it, or of all where there is none, meet all expectations, if none of these is of the end of a run.
 /// `AllocError` if memory runs out.
 pub fn first_failed_trial<B: Body, J: LineJudge<B>>(
     alloc: Global,

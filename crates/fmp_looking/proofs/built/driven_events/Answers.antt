@@ -21,8 +21,8 @@ returns-clause-drive c =
     record {
       drive = drive;
       driven =
-          subst (λ (most : ℕ). DrivesImage c.args.image.now c.args.run.bound most c.args.run.seed drive) c.kept_events.ensures.kept
-          c.in_ok-drive.ensures;
+          subst (λ (most : ℕ). DrivesImage c.args.image.now c.args.run.bound most c.args.run.seed drive)
+          c.kept_events.ensures.kept c.in_ok-drive.ensures;
       events = refl;
       ends = ap (λ (e : DriveEnding). Some e) c.ending_of-ending.ensures;
     }

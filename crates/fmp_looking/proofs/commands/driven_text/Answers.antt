@@ -29,8 +29,8 @@ returns c =
     record {
       drive = drive;
       driven =
-          subst (λ (most : ℕ). DrivesImage c.args.image.now c.args.driving.bound most c.args.driving.seed drive) c.kept_events.ensures.kept
-          c.in_ok-drive.ensures;
+          subst (λ (most : ℕ). DrivesImage c.args.image.now c.args.driving.bound most c.args.driving.seed drive)
+          c.kept_events.ensures.kept c.in_ok-drive.ensures;
       steps = c.in_ok-steps.ensures ∙ ap (λ (es : List Event). steps_text es) c.deref.ensures.value;
       ends = c.ending_of-ending.ensures;
     }

@@ -1,4 +1,4 @@
-use Rattle.std.proofs.Common.{◌≡◌, ◌∙◌, ℕ, Option, arith, subst}
+use Rattle.std.proofs.Common.{◌≡◌, ℕ, Option, arith, subst}
 use Rattle.std.proofs.lemmas.Result.{IfOk-weaker, err_from_is_err_and}
 use Rattle.fmp_base.specs.Meanings.{Meaning}
 use Rattle.fmp_drive.specs.declared.driving.Driven.{Driven}

@@ -11,4 +11,5 @@ returns-clause-report c =
     subst
     (λ (es : List Event). ShowsBroken (reaction_of code_meaning)
     (kernel_after c.args.opened.now.image.now c.args.opened.now.bound []) es c.args.expectations.now.name.now
-    c.args.expectations.now.text.now c.args.trial.run.broken c.in_ok-report.report.items) c.deref-2.ensures.value c.in_ok-report.ensures
+    c.args.expectations.now.text.now c.args.trial.run.broken c.in_ok-report.report.items)
+    c.deref-2.ensures.value c.in_ok-report.ensures

@@ -27,10 +27,12 @@ returns-in-Some-clause-failed g c =
     c.in_ok-failed-in-Some.ensures.steps
     (subst
     (λ (i : ImageTables). ShowsBroken (reaction_of code_meaning) (kernel_after i c.args.test.now.testing.bound [])
-    run.steps.items c.args.expectations.now.name.now c.args.expectations.now.text.now run.broken report) c.new-opened.ensures.image
+    run.steps.items c.args.expectations.now.name.now c.args.expectations.now.text.now run.broken report)
+    c.new-opened.ensures.image
     (subst
     (λ (n : ℕ). ShowsBroken (reaction_of code_meaning) (kernel_after c.new-opened.result.image.now n [])
-    run.steps.items c.args.expectations.now.name.now c.args.expectations.now.text.now run.broken report) c.new-opened.ensures.bound c.in_ok-failed-in-Some.ensures.report))
+    run.steps.items c.args.expectations.now.name.now c.args.expectations.now.text.now run.broken report)
+    c.new-opened.ensures.bound c.in_ok-failed-in-Some.ensures.report))
 
 pub returns-clause-met : goal.returns-clause-met
 returns-clause-met g c =

@@ -19,8 +19,8 @@ loop-made-preserved c =
           (seen_at c.args.positions.now c.loop-made.seen) (seen_at c.args.positions.now c.in_ok-seen.seen)
           c.deref.result.now c.loop-made.invariant.1
           (subst (IsRunOf trials) (sym c.deref.ensures.value)
-          (run_of_trials trials c.loop-made.bench (c.args.seeds.before + c.loop-made.made + 1) c.in_ok-steps.steps.items c.loop-made.invariant.0
-          c.in_ok-steps.ensures.run)) c.in_ok-seen.ensures,
+          (run_of_trials trials c.loop-made.bench (c.args.seeds.before + c.loop-made.made + 1)
+          c.in_ok-steps.steps.items c.loop-made.invariant.0 c.in_ok-steps.ensures.run)) c.in_ok-seen.ensures,
     )
 
 made : (k end n : ℕ) → end ≤ k → k ≤ end → end ≡ n → k ≡ n

@@ -11,7 +11,8 @@ returns-then-takes-clause-first g c =
     ∙ found_here (λ p. takes_in g.B.Body.meaning c.args.kernel.now (event.Run p)) c.loop-processor.processor c.args.end
     c.loop-processor-test.true
     (takes_there g.B.Body.meaning c.loop-processor.kernel c.args.kernel.now
-    (event.Run c.loop-processor.processor) c.takes.result _ c.loop-processor.invariant.same c.takes.ensures.takes c.if-takes.true))
+    (event.Run c.loop-processor.processor) c.takes.result _ c.loop-processor.invariant.same
+    c.takes.ensures.takes c.if-takes.true))
 
 pub loop-processor-preserved : goal.loop-processor-preserved
 loop-processor-preserved g c =
@@ -22,7 +23,8 @@ loop-processor-preserved g c =
           (found_later (λ p. takes_in g.B.Body.meaning c.args.kernel.now (event.Run p)) c.loop-processor.processor
           c.args.end c.loop-processor-test.true
           (takes_there g.B.Body.meaning c.loop-processor.kernel c.args.kernel.now
-          (event.Run c.loop-processor.processor) c.takes.result _ c.loop-processor.invariant.same c.takes.ensures.takes c.if-takes.false))
+          (event.Run c.loop-processor.processor) c.takes.result _ c.loop-processor.invariant.same
+          c.takes.ensures.takes c.if-takes.false))
           ∙ c.loop-processor.invariant.left;
     }
 

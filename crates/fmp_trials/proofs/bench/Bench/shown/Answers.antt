@@ -1,4 +1,4 @@
-use Rattle.std.proofs.Common.{◌≡◌, Option, Result, subst}
+use Rattle.std.proofs.Common.{◌≡◌, subst}
 use Rattle.std.specs.Result.{IfOk}
 use Rattle.fmp_kernel.specs.Comings.{reaction_of}
 use Rattle.fmp_trials.specs.Verdicts.{verdict}
