@@ -88,7 +88,7 @@ static void dispatch(void)
     struct task *next = ready_bits != 0 ? ready[__builtin_ctz(ready_bits)].head : NULL;
     if (!holds_dispatch && next != invoking) {
         running = next;
-        coroutine_leave(&invoking->coroutine);
+        fmp_coroutine_leave(&invoking->coroutine);
     }
 }
 
@@ -193,7 +193,7 @@ static void a(void)
         wai_sem(P);
     }
     running = NULL;
-    coroutine_leave(&tasks[0].coroutine);
+    fmp_coroutine_leave(&tasks[0].coroutine);
 }
 
 static void b(void)
@@ -211,7 +211,7 @@ static void sleeping_a(void)
         slp_tsk();
     }
     running = NULL;
-    coroutine_leave(&tasks[0].coroutine);
+    fmp_coroutine_leave(&tasks[0].coroutine);
 }
 
 static void sleeping_b(void)
@@ -229,7 +229,7 @@ static void alone(void)
         pol_sem(P);
     }
     running = NULL;
-    coroutine_leave(&tasks[0].coroutine);
+    fmp_coroutine_leave(&tasks[0].coroutine);
 }
 
 int main(int argc, char **argv)
@@ -245,7 +245,7 @@ int main(int argc, char **argv)
     for (int at = 0; at < 2; at++) {
         tasks[at].priority = 10;
         make_ready(&tasks[at]);
-        if (!coroutine_take(&tasks[at].coroutine, STACK)) {
+        if (!fmp_coroutine_take(&tasks[at].coroutine, STACK)) {
             return 1;
         }
     }
@@ -254,9 +254,9 @@ int main(int argc, char **argv)
         long at = running - tasks;
         if (!has_begun[at]) {
             has_begun[at] = 1;
-            coroutine_begin(&running->coroutine, bodies[at]);
+            fmp_coroutine_begin(&running->coroutine, bodies[at]);
         }
-        coroutine_enter(&outside, &running->coroutine);
+        fmp_coroutine_enter(&outside, &running->coroutine);
     }
     return 0;
 }

@@ -17,11 +17,11 @@ static void add(uint64_t *sum, const void *bytes, size_t length)
 static void add_object(uint64_t *sum, uint32_t kind, size_t number)
 {
     uint8_t name[NAME_ROOM] = { 0 };
-    uint32_t detail = fmp_detail(&system_kernel, kind, number);
+    uint32_t detail = fmp_detail(&fmp_system_kernel, kind, number);
     fmp_task_state state = { 0, 0, 0 };
-    fmp_name(&system_kernel, kind, number, name, sizeof name);
+    fmp_name(&fmp_system_kernel, kind, number, name, sizeof name);
     if (kind == FMP_TASKS) {
-        fmp_state(&system_kernel, (uint8_t)number, &state);
+        fmp_state(&fmp_system_kernel, (uint8_t)number, &state);
     }
     add(sum, name, sizeof name);
     add(sum, &detail, sizeof detail);
@@ -33,10 +33,10 @@ static uint64_t sum_of_system(void)
 {
     uint64_t sum = 14695981039346656037u;
     fmp_event_counts counts = { 0, 0, 0, 0 };
-    fmp_counts(&system_kernel, &counts);
+    fmp_counts(&fmp_system_kernel, &counts);
     add(&sum, &counts.processors, sizeof counts.processors);
     for (uint32_t kind = FMP_TASKS; kind <= FMP_INTERRUPTS; kind++) {
-        size_t count = fmp_count(&system_kernel, kind);
+        size_t count = fmp_count(&fmp_system_kernel, kind);
         add(&sum, &count, sizeof count);
         for (size_t number = 1; number <= count; number++) {
             add_object(&sum, kind, number);
@@ -45,13 +45,13 @@ static uint64_t sum_of_system(void)
     return sum;
 }
 
-enum fmp_opened checked_make(const struct fmp_program *program, FILE *messages)
+enum fmp_opened fmp_checked_make(const struct fmp_program *program, FILE *messages)
 {
     fmp_refusal why = { 0, 0, 0 };
     uint64_t bound = program->bound != 0 ? program->bound : USUAL_BOUND;
     uint64_t wanted = sum_of_system();
-    fmp_free(&system_kernel);
-    uint32_t made = fmp_new_checked(program->image, program->image_length, bound, &system_kernel, &why);
+    fmp_free(&fmp_system_kernel);
+    uint32_t made = fmp_new_checked(program->image, program->image_length, bound, &fmp_system_kernel, &why);
     if (made == FMP_NO_MEMORY) {
         fputs("fmp: out of memory\n", messages);
         return FMP_MEMORY_OUT;
@@ -71,7 +71,7 @@ enum fmp_opened checked_make(const struct fmp_program *program, FILE *messages)
     return FMP_OPENED;
 }
 
-void checked_complain(const struct flow *flow, FILE *messages)
+void fmp_checked_complain(const struct flow *flow, FILE *messages)
 {
     char name[NAME_ROOM] = { 0 };
     if (flow->wish != CALLS) {

@@ -5,9 +5,9 @@
 #include "system.h"
 
 /* The system of the image of a program takes the place of that of its configuration, which is at hand. */
-enum fmp_opened checked_make(const struct fmp_program *, FILE *messages);
+enum fmp_opened fmp_checked_make(const struct fmp_program *, FILE *messages);
 
 /* Says that a body wishes another thing than what its text does next. */
-void checked_complain(const struct flow *, FILE *messages);
+void fmp_checked_complain(const struct flow *, FILE *messages);
 
 #endif

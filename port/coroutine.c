@@ -126,7 +126,7 @@ static void prepare(struct coroutine *it)
 
 enum { ALIGNMENT = 64, GUARD = 64 << 10 };      /* whole pages, of whatever size */
 
-bool coroutine_take(struct coroutine *it, size_t size)
+bool fmp_coroutine_take(struct coroutine *it, size_t size)
 {
     size = (size + ALIGNMENT - 1) / ALIGNMENT * ALIGNMENT;
     unsigned char *low = mmap(NULL, size + GUARD, PROT_READ | PROT_WRITE, MAP_PRIVATE | MAP_ANONYMOUS, -1, 0);
@@ -142,14 +142,14 @@ bool coroutine_take(struct coroutine *it, size_t size)
     return true;
 }
 
-void coroutine_begin(struct coroutine *it, void (*entry)(void))
+void fmp_coroutine_begin(struct coroutine *it, void (*entry)(void))
 {
     renew(it);
     it->entry = entry;
     prepare(it);
 }
 
-void coroutine_enter(struct coroutine *outside, struct coroutine *it)
+void fmp_coroutine_enter(struct coroutine *outside, struct coroutine *it)
 {
     it->outside = outside;
     entered = it;
@@ -158,20 +158,20 @@ void coroutine_enter(struct coroutine *outside, struct coroutine *it)
     arrive_outside(outside);
 }
 
-void coroutine_leave(struct coroutine *it)
+void fmp_coroutine_leave(struct coroutine *it)
 {
     depart(it, it->outside);
     fmp_switch(&it->place, it->outside->place);
     arrive_inside(it, it->poisoned);
 }
 
-bool coroutine_overflows(const struct coroutine *it, const void *address)
+bool fmp_coroutine_overflows(const struct coroutine *it, const void *address)
 {
     uintptr_t low = (uintptr_t)it->stack, at = (uintptr_t)address;
     return it->stack != NULL && low - GUARD <= at && at < low;
 }
 
-void coroutine_free(struct coroutine *it)
+void fmp_coroutine_free(struct coroutine *it)
 {
     if (it->stack != NULL) {
         renew(it);

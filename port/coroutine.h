@@ -16,21 +16,21 @@ struct coroutine {
 };
 
 /* Takes a stack of at least this many bytes for it, which has none. False if memory runs out. */
-bool coroutine_take(struct coroutine *, size_t size);
+bool fmp_coroutine_take(struct coroutine *, size_t size);
 
 /* Lets it begin with this function, on its stack, which is empty then. */
-void coroutine_begin(struct coroutine *, void (*entry)(void));
+void fmp_coroutine_begin(struct coroutine *, void (*entry)(void));
 
 /* The thread keeps its own place outside, and goes on with the coroutine until it leaves. */
-void coroutine_enter(struct coroutine *outside, struct coroutine *);
+void fmp_coroutine_enter(struct coroutine *outside, struct coroutine *);
 
 /* Goes back to where it was entered. Returns when it is entered again, by whichever thread. */
-void coroutine_leave(struct coroutine *);
+void fmp_coroutine_leave(struct coroutine *);
 
 /* Whether an address is in the 64 KB below its stack, which none may touch. */
-bool coroutine_overflows(const struct coroutine *, const void *address);
+bool fmp_coroutine_overflows(const struct coroutine *, const void *address);
 
 /* Gives its stack back, if it has one. */
-void coroutine_free(struct coroutine *);
+void fmp_coroutine_free(struct coroutine *);
 
 #endif

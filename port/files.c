@@ -41,7 +41,7 @@ static char *read_all(FILE *file, size_t *length)
     return text;
 }
 
-char *files_text(const char *path, size_t *length)
+char *fmp_files_text(const char *path, size_t *length)
 {
     take_standard();
     FILE *file = fopen(path, "rb");
@@ -55,7 +55,7 @@ char *files_text(const char *path, size_t *length)
     return text;
 }
 
-bool files_are_one(const char *path, const char *other)
+bool fmp_files_are_one(const char *path, const char *other)
 {
     struct stat one, two;
     return stat(path, &one) == 0 && S_ISREG(one.st_mode) && stat(other, &two) == 0 && one.st_dev == two.st_dev
@@ -70,13 +70,13 @@ static bool told(bool is_written, const char *path)
     return is_written;
 }
 
-bool files_create(const char *path, FILE **file)
+bool fmp_files_create(const char *path, FILE **file)
 {
     *file = path != NULL ? fopen(path, "w") : NULL;
     return told(path == NULL || *file != NULL, path);
 }
 
-bool files_close(FILE *file, const char *path)
+bool fmp_files_close(FILE *file, const char *path)
 {
     if (file == NULL) {
         return true;
@@ -86,7 +86,7 @@ bool files_close(FILE *file, const char *path)
     return told(is_written, path);
 }
 
-bool files_flush_output(void)
+bool fmp_files_flush_output(void)
 {
     return told(fflush(stdout) == 0 && ferror(stdout) == 0, "-");
 }

@@ -159,7 +159,7 @@ static void tell(struct processor *it)
 
 static void tell_all(uint32_t bits)
 {
-    for (uint32_t at = 0; at < system_processors; at++) {
+    for (uint32_t at = 0; at < fmp_system_processors; at++) {
         if (bits >> at & 1) {
             tell(&processors[at]);
         }
@@ -194,7 +194,7 @@ static uint32_t bit_of(const struct processor *it)
 static uint32_t hand_in(struct processor *me, struct flow *flow)
 {
     uint32_t changes = 0;
-    uint32_t answer = system_hand_in(me->number, flow, &changes);
+    uint32_t answer = fmp_system_hand_in(me->number, flow, &changes);
     heard(answer, changes, bit_of(me));
     if (answer == FMP_DONE && (flow->service == UNL_SPN || changes & FMP_BODY_ENDS)) {
         tell_all(spinning);
@@ -208,13 +208,13 @@ static const fmp_actor *acting(struct processor *me)
     if (has_news(me)) {
         atomic_store_explicit(&me->news, false, memory_order_relaxed);
     }
-    return system_acting(me->number);
+    return fmp_system_acting(me->number);
 }
 
 static bool acts(struct processor *me, const struct flow *flow)
 {
     const fmp_actor *actor = acting(me);
-    return over == FMP_NOT_OVER && actor->who != FMP_NOBODY && system_flow(actor, me->number) == flow;
+    return over == FMP_NOT_OVER && actor->who != FMP_NOBODY && fmp_system_flow(actor, me->number) == flow;
 }
 
 /* Bodies. */
@@ -245,7 +245,7 @@ static bool goes_on(struct processor *me, struct flow *flow)
     if (flow->wish != GOES_ON || !acts(me, flow)) {
         return false;
     }
-    flow->reply = *system_acting(me->number);
+    flow->reply = *fmp_system_acting(me->number);
     return flow->reply.told == FMP_REPLIED;
 }
 
@@ -258,7 +258,7 @@ static void give_way(struct flow *flow)
         if (acts(here(), flow)) {
             release_lock();
         } else {
-            coroutine_leave(&flow->coroutine);
+            fmp_coroutine_leave(&flow->coroutine);
         }
         leave_port();
     } while (by_signals && has_news(here()));
@@ -294,7 +294,7 @@ static void ask(struct flow *flow, enum wish wish)
     if (goes_on(here(), flow)) {
         release_lock();
     } else {
-        coroutine_leave(&flow->coroutine);
+        fmp_coroutine_leave(&flow->coroutine);
     }
     follow_cpu_lock(flow);
     go_on(flow);
@@ -316,7 +316,7 @@ static void enter(struct processor *me, struct flow *flow, const fmp_actor *acto
     flow->told = &flow->reply;
     me->inside = true;
     release_lock();
-    system_enter(&me->outside, flow);
+    fmp_system_enter(&me->outside, flow);
     me->inside = false;
 }
 
@@ -334,7 +334,7 @@ __attribute__((noinline)) static int *place_of_errno(void)
 static void on_preemption(int number, siginfo_t *about, void *context)
 {
     ucontext_t *interrupted = context;
-    struct flow *flow = system_inside();
+    struct flow *flow = fmp_system_inside();
     (void)number;
     (void)about;
     if (flow != NULL && !in_port && !flow->is_alone && has_news(here())) {
@@ -351,7 +351,7 @@ static bool all_dormant(void)
 {
     for (size_t looked = 0; looked < task_count; looked++) {
         fmp_task_state state = { 0, 0, 0 };
-        fmp_state(&system_kernel, (uint8_t)(awake + 1), &state);
+        fmp_state(&fmp_system_kernel, (uint8_t)(awake + 1), &state);
         if (state.word != FMP_DORMANT) {
             return false;
         }
@@ -372,14 +372,14 @@ static void idle(struct processor *me)
 static void *run_processor(void *argument)
 {
     struct processor *me = argument;
-    overflow_use(me->signal_stack);
+    fmp_overflow_use(me->signal_stack);
     of_thread = me;
     enter_port();
-    signals_unblock_preemption();
+    fmp_signals_unblock_preemption();
     take_lock();
     while (over == FMP_NOT_OVER) {
         const fmp_actor *actor = acting(me);
-        struct flow *flow = system_flow(actor, me->number);
+        struct flow *flow = fmp_system_flow(actor, me->number);
         if (actor->who == FMP_NOBODY) {
             idle(me);
         } else if (flow->wish > BEGINS) {
@@ -401,7 +401,7 @@ static bool tick(int64_t due)
     take_lock();
     if (over == FMP_NOT_OVER) {
         atomic_store(&tick_due, due);
-        uint32_t answer = system_tick(&changes);
+        uint32_t answer = fmp_system_tick(&changes);
         heard(answer, changes, 0);
         if (ticks_left > 0 && --ticks_left == 0) {
             end_run(FMP_TICKS_OVER);
@@ -455,7 +455,7 @@ static bool interrupt(void)
     for (uint8_t number = 1; number <= INTERRUPTS; number++) {
         uint32_t changes = 0;
         if (bits >> (number - 1) & 1) {
-            uint32_t answer = system_interrupt(number, &changes);
+            uint32_t answer = fmp_system_interrupt(number, &changes);
             merged[number - 1] += answer == FMP_NOTHING;
             heard(answer, changes, 0);
         }
@@ -522,13 +522,14 @@ static void prepare(long nanoseconds, unsigned long ticks)
     sem_init(&clock_end, 0, 0);
     over = FMP_NOT_OVER;
     spinning = 0;
-    task_count = fmp_count(&system_kernel, FMP_TASKS);
+    task_count = fmp_count(&fmp_system_kernel, FMP_TASKS);
     awake = 0;
-    ends_dormant = fmp_count(&system_kernel, FMP_CYCLICS) == 0 && fmp_count(&system_kernel, FMP_INTERRUPTS) == 0;
+    ends_dormant = fmp_count(&fmp_system_kernel, FMP_CYCLICS) == 0
+        && fmp_count(&fmp_system_kernel, FMP_INTERRUPTS) == 0;
     tick_length = nanoseconds;
     ticks_left = ticks;
-    most_patience = sysconf(_SC_NPROCESSORS_ONLN) >= (long)system_processors ? MOST_PATIENCE : 0;
-    for (uint32_t at = 0; at < system_processors; at++) {
+    most_patience = sysconf(_SC_NPROCESSORS_ONLN) >= (long)fmp_system_processors ? MOST_PATIENCE : 0;
+    for (uint32_t at = 0; at < fmp_system_processors; at++) {
         struct processor *it = &processors[at];
         it->number = (uint8_t)(at + 1);
         it->patience = most_patience;
@@ -536,7 +537,7 @@ static void prepare(long nanoseconds, unsigned long ticks)
         atomic_store(&it->news, false);
         pthread_cond_init(&it->wake, NULL);
     }
-    system_driver = &in_real_time;
+    fmp_system_driver = &in_real_time;
 }
 
 /* Makes a thread, unless an earlier one could not be made. */
@@ -558,10 +559,10 @@ static void run_threads(FILE *messages)
     pthread_t clock_thread, interrupt_thread;
     uint32_t count = 0;
     sigset_t kept;
-    signals_block(&kept);
+    fmp_signals_block(&kept);
     take_lock();
     bool has_interrupts = start(&interrupt_thread, run_interrupts, NULL, "interrupts", messages);
-    for (; count < system_processors; count++) {
+    for (; count < fmp_system_processors; count++) {
         char what[NAME_ROOM];
         snprintf(what, sizeof what, "processor %u", (unsigned)count + 1);
         if (!start(&processors[count].thread, run_processor, &processors[count], what, messages)) {
@@ -587,9 +588,10 @@ static void run_threads(FILE *messages)
 /* All that is recorded, if the lock is not held for long. */
 static void write_last_words(void)
 {
+    enter_port();               /* it keeps the lock: no signal of preemption may take it again */
     for (int attempt = 0; attempt < FLUSH_ATTEMPTS; attempt++) {
         if (pthread_mutex_trylock(&lock) == 0) {
-            recording_save();
+            fmp_recording_save();
             return;
         }
     }
@@ -597,39 +599,39 @@ static void write_last_words(void)
 
 static void run(long nanoseconds, unsigned long ticks, FILE *messages)
 {
-    uint32_t steppable = by_signals ? 0 : system_steppable;
-    system_steppable = 0;
+    uint32_t steppable = by_signals ? 0 : fmp_system_steppable;
+    fmp_system_steppable = 0;
     prepare(nanoseconds, ticks);
     atomic_store(&takes_requests, true);
     post_request();
-    overflow_watch(write_last_words);
-    signals_take(by_signals ? on_preemption : NULL);
+    fmp_overflow_watch(write_last_words);
+    fmp_signals_take(by_signals ? on_preemption : NULL);
     run_threads(messages);
-    signals_give_back();
-    system_steppable = steppable;
+    fmp_signals_give_back();
+    fmp_system_steppable = steppable;
     by_signals = false;
-    overflow_watch(recording_save);
+    fmp_overflow_watch(fmp_recording_save);
     atomic_store(&takes_requests, false);
     atomic_store(&halted, false);
-    for (uint32_t at = 0; at < system_processors; at++) {
+    for (uint32_t at = 0; at < fmp_system_processors; at++) {
         pthread_cond_destroy(&processors[at].wake);
     }
     sem_destroy(&clock_end);
-    recording_flush();
+    fmp_recording_flush();
 }
 
 enum fmp_over fmp_run(long nanoseconds, unsigned long ticks, FILE *messages)
 {
-    if (system_inside() != NULL || atomic_exchange(&system_runs, true)) {
+    if (fmp_system_inside() != NULL || atomic_exchange(&fmp_system_runs, true)) {
         return FMP_NOT_OPEN;
     }
     enum fmp_over why = FMP_NOT_OPEN;
-    if (system_kernel.at != NULL && !signals_choose_preemption(&by_signals, messages)) {
+    if (fmp_system_kernel.at != NULL && !fmp_signals_choose_preemption(&by_signals, messages)) {
         why = FMP_NO_PREEMPTION;
-    } else if (system_kernel.at != NULL) {
+    } else if (fmp_system_kernel.at != NULL) {
         run(nanoseconds, ticks, messages);
         why = over;
     }
-    atomic_store(&system_runs, false);
+    atomic_store(&fmp_system_runs, false);
     return why;
 }

@@ -38,7 +38,7 @@ static bool give_back(int number)
 /* An overflow ends the program. Any other fault comes again, as if this was not here. */
 static void on_fault(int number, siginfo_t *about, void *context)
 {
-    const struct flow *flow = number == SIGSEGV ? system_overflowing(about->si_addr) : NULL;
+    const struct flow *flow = number == SIGSEGV ? fmp_system_overflowing(about->si_addr) : NULL;
     (void)context;
     if (flow != NULL) {
         say("fmp: the stack of ");
@@ -56,7 +56,7 @@ static void on_fault(int number, siginfo_t *about, void *context)
     }
 }
 
-void overflow_watch(void (*last_words)(void))
+void fmp_overflow_watch(void (*last_words)(void))
 {
     struct sigaction fault = { .sa_sigaction = on_fault, .sa_flags = SA_SIGINFO | SA_ONSTACK };
     sigfillset(&fault.sa_mask);
@@ -67,7 +67,7 @@ void overflow_watch(void (*last_words)(void))
 }
 
 /* Handlers that the program has set since then stay. */
-void overflow_ignore(void)
+void fmp_overflow_ignore(void)
 {
     struct sigaction now;
     for (size_t at = 0; say_last_words != NULL && at < KINDS; at++) {
@@ -85,13 +85,13 @@ static void on_exit_of_program(void)
     }
 }
 
-void overflow_watch_exit(void)
+void fmp_overflow_watch_exit(void)
 {
     static bool is_watched;
     is_watched = is_watched || atexit(on_exit_of_program) == 0;
 }
 
-void overflow_use(unsigned char *stack)
+void fmp_overflow_use(unsigned char *stack)
 {
     stack_t now, own = { .ss_sp = stack, .ss_size = OVERFLOW_STACK };
     if (sigaltstack(NULL, &now) == 0 && now.ss_flags & SS_DISABLE) {

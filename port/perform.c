@@ -68,23 +68,23 @@ static int perform(const char *text, size_t length, const struct wanted *it, con
     if (fmp_open(text, length, program, stdout, stderr) != FMP_OPENED) {
         return 1;
     }
-    if (!files_create(it->recording, &recording)) {
+    if (!fmp_files_create(it->recording, &recording)) {
         fmp_close();
         return 3;
     }
-    overflow_watch_exit();
+    fmp_overflow_watch_exit();
     bool ran = run(it, recording);
     fmp_close();
-    bool is_printed = files_flush_output();
-    return files_close(recording, it->recording) && is_printed && ran ? 0 : 3;
+    bool is_printed = fmp_files_flush_output();
+    return fmp_files_close(recording, it->recording) && is_printed && ran ? 0 : 3;
 }
 
 /* The same of files. */
 static int perform_files(const struct wanted *it, struct fmp_program program)
 {
     size_t length;
-    char *image = it->image != NULL ? files_text(it->image, &program.image_length) : NULL;
-    char *cfg = it->image == NULL || image != NULL ? files_text(it->cfg, &length) : NULL;
+    char *image = it->image != NULL ? fmp_files_text(it->image, &program.image_length) : NULL;
+    char *cfg = it->image == NULL || image != NULL ? fmp_files_text(it->cfg, &length) : NULL;
     program.image = image != NULL ? (const uint8_t *)image : program.image;
     int status = cfg != NULL ? perform(cfg, length, it, &program) : 3;
     free(cfg);
@@ -94,8 +94,8 @@ static int perform_files(const struct wanted *it, struct fmp_program program)
 
 static bool writes_over_input(const struct wanted *it)
 {
-    return it->recording != NULL && (files_are_one(it->recording, it->cfg)
-                                     || (it->image != NULL && files_are_one(it->recording, it->image)));
+    return it->recording != NULL && (fmp_files_are_one(it->recording, it->cfg)
+                                     || (it->image != NULL && fmp_files_are_one(it->recording, it->image)));
 }
 
 int fmp_perform(int argc, char **argv, const struct fmp_program *program)

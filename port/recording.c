@@ -20,7 +20,7 @@ struct line {
     uint8_t text[LINE_ROOM - 1];
 };
 
-FILE *recording_file;
+FILE *fmp_recording_file;
 
 static int descriptor = -1;         /* of the file, if it has one */
 static bool has_times;
@@ -56,7 +56,7 @@ static size_t write_number(uint64_t number, uint8_t *out)
 /* The line of the last event. The time is put before its line feed. How many bytes. */
 static size_t write_line(uint8_t *out)
 {
-    size_t length = fmp_recorded(&system_kernel, out, LINE_ROOM - 1);
+    size_t length = fmp_recorded(&fmp_system_kernel, out, LINE_ROOM - 1);
     if (has_times && length > 0) {
         out[length - 1] = ' ';
         out[length++] = '@';
@@ -80,7 +80,7 @@ static bool is_restart(const struct line *line)
 
 static void add(size_t (*write)(uint8_t *out))
 {
-    if (recording_file == NULL) {
+    if (fmp_recording_file == NULL) {
         return;
     }
     if (last != NULL) {
@@ -90,27 +90,27 @@ static void add(size_t (*write)(uint8_t *out))
         return;
     }
     if (piece_length + LINE_ROOM > sizeof piece) {
-        recording_flush();
+        fmp_recording_flush();
     }
     piece_length += write(piece + piece_length);
 }
 
-void recording_add(void)
+void fmp_recording_add(void)
 {
     add(write_line);
 }
 
-void recording_restart(void)
+void fmp_recording_restart(void)
 {
     add(write_restart);
 }
 
-void recording_flush(void)
+void fmp_recording_flush(void)
 {
-    if (recording_file != NULL && piece_length > 0) {
-        fwrite(piece, 1, piece_length, recording_file);
-        if (fflush(recording_file) != 0 || ferror(recording_file)) {
-            recording_file = NULL;      /* lines after those that are missing would be of no use */
+    if (fmp_recording_file != NULL && piece_length > 0) {
+        fwrite(piece, 1, piece_length, fmp_recording_file);
+        if (fflush(fmp_recording_file) != 0 || ferror(fmp_recording_file)) {
+            fmp_recording_file = NULL;      /* lines after those that are missing would be of no use */
         }
     }
     piece_length = 0;
@@ -165,17 +165,17 @@ static void put_last(void (*flush)(void))
     added = dropped_restarts = 0;
 }
 
-void recording_end(void)
+void fmp_recording_end(void)
 {
-    recording_flush();
-    if (last != NULL && recording_file != NULL) {
-        put_last(recording_flush);
+    fmp_recording_flush();
+    if (last != NULL && fmp_recording_file != NULL) {
+        put_last(fmp_recording_flush);
     }
 }
 
-void recording_save(void)
+void fmp_recording_save(void)
 {
-    if (recording_file == NULL || descriptor < 0) {
+    if (fmp_recording_file == NULL || descriptor < 0) {
         return;
     }
     save_piece();
@@ -186,20 +186,20 @@ void recording_save(void)
 
 bool fmp_record_as(FILE *recording, const struct fmp_recording *how)
 {
-    if (atomic_load(&system_runs)) {
+    if (atomic_load(&fmp_system_runs)) {
         return false;
     }
     struct line *ring = how->last > 0 ? calloc(how->last, sizeof *ring) : NULL;
     if (how->last > 0 && ring == NULL) {
         return false;
     }
-    recording_end();
+    fmp_recording_end();
     free(last);
     last = ring;
     most_last = how->last;
     has_times = how->has_times;
     began = now();
-    recording_file = recording;
+    fmp_recording_file = recording;
     descriptor = -1;
     if (recording != NULL) {
         fflush(recording);          /* what was written before comes first */

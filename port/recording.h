@@ -4,24 +4,24 @@
 
 #include <stdio.h>
 
-extern FILE *recording_file;    /* NULL where nothing is recorded */
+extern FILE *fmp_recording_file;    /* NULL where nothing is recorded */
 
 /* Records the last event that was done. */
-void recording_add(void);
+void fmp_recording_add(void);
 
 /* Records that the counts and the clock of the kernel began again. */
-void recording_restart(void);
+void fmp_recording_restart(void);
 
 /* Writes what is recorded, but not the last events where only these are kept. */
-void recording_flush(void);
+void fmp_recording_flush(void);
 
 /* Writes all that is recorded. */
-void recording_end(void);
+void fmp_recording_end(void);
 
 /*
  * The same where the program ends: by the descriptor of the file, since a fault may have come while the C library held
  * a lock of its memory. A file without a descriptor gets nothing.
  */
-void recording_save(void);
+void fmp_recording_save(void);
 
 #endif

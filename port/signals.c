@@ -19,7 +19,7 @@ static void on_ending(int number)
 }
 
 /* Bodies that are interrupted go on in any thread: none of them blocks the signal while it is handled. */
-void signals_take(void (*preempt)(int, siginfo_t *, void *))
+void fmp_signals_take(void (*preempt)(int, siginfo_t *, void *))
 {
     struct sigaction preemption = { .sa_sigaction = preempt, .sa_flags = SA_SIGINFO | SA_NODEFER | SA_RESTART };
     sigaction(SIGNAL_OF_PREEMPTION, preempt != NULL ? &preemption : NULL, &kept_preemption);
@@ -32,7 +32,7 @@ void signals_take(void (*preempt)(int, siginfo_t *, void *))
     }
 }
 
-void signals_give_back(void)
+void fmp_signals_give_back(void)
 {
     sigaction(SIGNAL_OF_PREEMPTION, &kept_preemption, NULL);
     for (int at = 0; at < ENDING; at++) {
@@ -40,7 +40,7 @@ void signals_give_back(void)
     }
 }
 
-void signals_block(sigset_t *kept)
+void fmp_signals_block(sigset_t *kept)
 {
     static const int own[] = { SIGSEGV, SIGBUS, SIGFPE, SIGILL, SIGTRAP, SIGABRT };
     struct sigaction pipe;
@@ -55,7 +55,7 @@ void signals_block(sigset_t *kept)
     pthread_sigmask(SIG_SETMASK, &others, kept);
 }
 
-void signals_unblock_preemption(void)
+void fmp_signals_unblock_preemption(void)
 {
     sigset_t preemption;
     sigemptyset(&preemption);
@@ -63,7 +63,7 @@ void signals_unblock_preemption(void)
     pthread_sigmask(SIG_UNBLOCK, &preemption, NULL);
 }
 
-bool signals_choose_preemption(bool *by_signals, FILE *messages)
+bool fmp_signals_choose_preemption(bool *by_signals, FILE *messages)
 {
     const char *how = getenv("FMP_PREEMPT");
     *by_signals = how != NULL && strcmp(how, "signal") == 0;

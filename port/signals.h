@@ -10,17 +10,17 @@
  * SIGINT and SIGTERM halt the run, if they would end the program. Signals of preemption are for this function, if it is
  * not NULL.
  */
-void signals_take(void (*preempt)(int, siginfo_t *, void *));
+void fmp_signals_take(void (*preempt)(int, siginfo_t *, void *));
 
 /* As they were. */
-void signals_give_back(void);
+void fmp_signals_give_back(void);
 
 /* The invoking thread leaves signals to others, but those of its own faults; and takes that of preemption again. */
-void signals_block(sigset_t *kept);
-void signals_unblock_preemption(void);
+void fmp_signals_block(sigset_t *kept);
+void fmp_signals_unblock_preemption(void);
 
 /* Whether FMP_PREEMPT asks for preemption by signals. False if it asks for what there is not, after a message. */
-bool signals_choose_preemption(bool *by_signals, FILE *messages);
+bool fmp_signals_choose_preemption(bool *by_signals, FILE *messages);
 
 enum { SIGNAL_OF_PREEMPTION = SIGURG };     /* is ignored where no run is */
 

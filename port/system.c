@@ -29,12 +29,12 @@ struct event {
     uint8_t processor;
 };
 
-fmp_system system_kernel = FMP_BLANK;
-uint32_t system_processors;
-uint32_t system_steppable;
-atomic_bool system_runs;
-unsigned long system_polls;
-const struct driver *system_driver;
+fmp_system fmp_system_kernel = FMP_BLANK;
+uint32_t fmp_system_processors;
+uint32_t fmp_system_steppable;
+atomic_bool fmp_system_runs;
+unsigned long fmp_system_polls;
+const struct driver *fmp_system_driver;
 
 static struct flow tasks[TASKS];                        /* by numbers from 1 on, each one place lower */
 static struct flow handlers[PROCESSORS];
@@ -50,38 +50,38 @@ static FILE *message_file;
 static _Thread_local struct flow *running;              /* NULL outside bodies */
 
 /* A body may go on in another thread than before: where `running` is may not be kept over a call of these functions. */
-__attribute__((noinline)) struct flow *system_inside(void);
+__attribute__((noinline)) struct flow *fmp_system_inside(void);
 __attribute__((noinline)) ER fmp_service(uint8_t, int32_t, int32_t, int32_t, int32_t, int32_t *);
 __attribute__((noinline)) void fmp_stop(uint8_t);
 __attribute__((noinline)) void fmp_poll(void);
 
-struct flow *system_inside(void)
+struct flow *fmp_system_inside(void)
 {
     return running;
 }
 
 _Noreturn static void leave_for_good(struct flow *me, enum wish wish)
 {
-    system_driver->ask(me, wish);
+    fmp_system_driver->ask(me, wish);
     abort();
 }
 
 static void begin(void)
 {
-    struct flow *me = system_inside();
-    system_driver->begin(me);
+    struct flow *me = fmp_system_inside();
+    fmp_system_driver->begin(me);
     me->run(me->told->value);
     leave_for_good(me, ENDS);
 }
 
-void system_enter(struct coroutine *outside, struct flow *flow)
+void fmp_system_enter(struct coroutine *outside, struct flow *flow)
 {
     if (flow->wish == BEGINS) {
         flow->wish = GOES_ON;
-        coroutine_begin(&flow->coroutine, begin);
+        fmp_coroutine_begin(&flow->coroutine, begin);
     }
     running = flow;
-    coroutine_enter(outside, &flow->coroutine);
+    fmp_coroutine_enter(outside, &flow->coroutine);
     running = NULL;
 }
 
@@ -99,7 +99,7 @@ ER fmp_service(uint8_t service, int32_t a, int32_t b, int32_t c, int32_t d, int3
     me->arguments[1] = b;
     me->arguments[2] = c;
     me->arguments[3] = d;
-    system_driver->ask(me, CALLS);
+    fmp_system_driver->ask(me, CALLS);
     if (me->told->has_value) {
         *value = me->told->value;
     }
@@ -120,7 +120,7 @@ void fmp_poll(void)
 {
     struct flow *me = running;
     if (me != NULL) {
-        system_driver->poll(me);
+        fmp_system_driver->poll(me);
     }
 }
 
@@ -130,7 +130,7 @@ static void print_lines(void)
 {
     static uint8_t room[EVENT_ROOM];
     if (trace_file != NULL) {
-        fwrite(room, 1, fmp_print(&system_kernel, room, sizeof room), trace_file);
+        fwrite(room, 1, fmp_print(&fmp_system_kernel, room, sizeof room), trace_file);
     }
 }
 
@@ -155,10 +155,10 @@ static void follow_line(const fmp_trace_line *line)
 static void follow_lines(void)
 {
     fmp_event_counts counts;
-    fmp_counts(&system_kernel, &counts);
+    fmp_counts(&fmp_system_kernel, &counts);
     for (size_t place = 0; place < counts.lines; place++) {
         fmp_trace_line line;
-        fmp_line(&system_kernel, place, &line);
+        fmp_line(&fmp_system_kernel, place, &line);
         follow_line(&line);
     }
 }
@@ -166,9 +166,9 @@ static void follow_lines(void)
 /* Who acts on these processors, by bits. */
 static void look_at(uint32_t changes)
 {
-    for (uint32_t at = 0; at < system_processors; at++) {
+    for (uint32_t at = 0; at < fmp_system_processors; at++) {
         if (changes >> at & 1) {
-            fmp_acting(&system_kernel, (uint8_t)(at + 1), &last[at].outcome.acting);
+            fmp_acting(&fmp_system_kernel, (uint8_t)(at + 1), &last[at].outcome.acting);
         }
     }
 }
@@ -180,7 +180,7 @@ __attribute__((noinline)) static void follow(uint32_t changes)
     if (changes & (FMP_TASK_STARTS | FMP_HANDLER_BEGINS)) {
         follow_lines();
     }
-    recording_add();
+    fmp_recording_add();
     print_lines();
 }
 
@@ -188,8 +188,8 @@ __attribute__((noinline)) static void follow(uint32_t changes)
 __attribute__((noinline)) static void restart(void)
 {
     events_left = FMP_RESTART_AT;
-    fmp_restart_count(&system_kernel);
-    recording_restart();
+    fmp_restart_count(&fmp_system_kernel);
+    fmp_recording_restart();
 }
 
 static inline void count(void)
@@ -199,12 +199,12 @@ static inline void count(void)
     }
 }
 
-const fmp_actor *system_acting(uint8_t p)
+const fmp_actor *fmp_system_acting(uint8_t p)
 {
     return &last[p - 1].outcome.acting;
 }
 
-struct flow *system_flow(const fmp_actor *actor, uint8_t p)
+struct flow *fmp_system_flow(const fmp_actor *actor, uint8_t p)
 {
     return actor->who == FMP_TASK ? &tasks[actor->number - 1] : &handlers[p - 1];
 }
@@ -214,13 +214,13 @@ static inline uint32_t event_of(const struct flow *flow, struct event *event)
     const volatile int32_t *with = flow->arguments;
     uint8_t p = event->processor;
     if (flow->wish == CALLS) {
-        return fmp_call(&system_kernel, p, flow->service, with[0], with[1], with[2], with[3], &event->outcome);
+        return fmp_call(&fmp_system_kernel, p, flow->service, with[0], with[1], with[2], with[3], &event->outcome);
     }
     switch (flow->wish) {
     case ENDS:
-        return fmp_end(&system_kernel, p, &event->outcome);
+        return fmp_end(&fmp_system_kernel, p, &event->outcome);
     case FAULTS:
-        return fmp_fault(&system_kernel, p, flow->fault, &event->outcome);
+        return fmp_fault(&fmp_system_kernel, p, flow->fault, &event->outcome);
     default:
         return FMP_KEPT;
     }
@@ -228,7 +228,7 @@ static inline uint32_t event_of(const struct flow *flow, struct event *event)
 
 static inline bool is_watched(void)
 {
-    return ((uintptr_t)trace_file | (uintptr_t)recording_file) != 0;
+    return ((uintptr_t)trace_file | (uintptr_t)fmp_recording_file) != 0;
 }
 
 static inline uint32_t hand_in(struct flow *flow, struct event *event)
@@ -246,12 +246,12 @@ static inline uint32_t hand_in(struct flow *flow, struct event *event)
     } else if (answer == FMP_STILL_LONG) {
         count();
     } else if (answer == FMP_NOT_THE_TEXT) {
-        checked_complain(flow, message_file);
+        fmp_checked_complain(flow, message_file);
     }
     return answer;
 }
 
-uint32_t system_hand_in(uint8_t p, struct flow *flow, uint32_t *changes)
+uint32_t fmp_system_hand_in(uint8_t p, struct flow *flow, uint32_t *changes)
 {
     struct event *event = &last[p - 1];
     uint32_t answer = hand_in(flow, event);
@@ -267,12 +267,12 @@ __attribute__((noinline)) static uint32_t step(struct event *event, const struct
     if (running != NULL || actor->who == FMP_NOBODY) {
         return FMP_NOTHING;
     }
-    struct flow *flow = system_flow(actor, event->processor);
+    struct flow *flow = fmp_system_flow(actor, event->processor);
     if (flow->wish <= BEGINS) {
         flow->told = actor;
         flow->polls = 0;
-        system_driver = driver;
-        system_enter(outside, flow);
+        fmp_system_driver = driver;
+        fmp_system_enter(outside, flow);
     }
     return hand_in(flow, event);
 }
@@ -280,19 +280,19 @@ __attribute__((noinline)) static uint32_t step(struct event *event, const struct
 /* What is answered where a processor cannot be stepped. */
 static uint32_t why_no_step(uint8_t at)
 {
-    if (running != NULL || atomic_load(&system_runs)) {
+    if (running != NULL || atomic_load(&fmp_system_runs)) {
         return FMP_NOTHING;
     }
-    if (system_kernel.at == NULL) {
+    if (fmp_system_kernel.at == NULL) {
         return FMP_NO_SYSTEM;
     }
-    return at < system_processors ? FMP_NOTHING : FMP_NO_PROCESSOR;
+    return at < fmp_system_processors ? FMP_NOTHING : FMP_NO_PROCESSOR;
 }
 
-uint32_t system_step(uint8_t p, const struct driver *driver, struct coroutine *outside)
+uint32_t fmp_system_step(uint8_t p, const struct driver *driver, struct coroutine *outside)
 {
     uint8_t at = (uint8_t)(p - 1);
-    return at < system_steppable ? step(&last[at], driver, outside) : why_no_step(at);
+    return at < fmp_system_steppable ? step(&last[at], driver, outside) : why_no_step(at);
 }
 
 static uint32_t finished(uint32_t answer, const fmp_outcome *outcome, uint32_t *changes)
@@ -305,16 +305,16 @@ static uint32_t finished(uint32_t answer, const fmp_outcome *outcome, uint32_t *
     return answer;
 }
 
-uint32_t system_tick(uint32_t *changes)
+uint32_t fmp_system_tick(uint32_t *changes)
 {
     fmp_outcome outcome = { .changes = 0 };
-    return finished(fmp_tick(&system_kernel, &outcome), &outcome, changes);
+    return finished(fmp_tick(&fmp_system_kernel, &outcome), &outcome, changes);
 }
 
-uint32_t system_interrupt(uint8_t number, uint32_t *changes)
+uint32_t fmp_system_interrupt(uint8_t number, uint32_t *changes)
 {
     fmp_outcome outcome = { .changes = 0 };
-    return finished(fmp_int(&system_kernel, number, &outcome), &outcome, changes);
+    return finished(fmp_int(&fmp_system_kernel, number, &outcome), &outcome, changes);
 }
 
 /* Opening and closing. */
@@ -333,7 +333,7 @@ static body_function function_of(const struct fmp_program *program, const char *
 static body_function find(const struct fmp_program *program, uint32_t kind, size_t number, FILE *messages)
 {
     char name[NAME_ROOM] = { 0 };
-    fmp_body(&system_kernel, kind, number, (uint8_t *)name, NAME_ROOM - 1);
+    fmp_body(&fmp_system_kernel, kind, number, (uint8_t *)name, NAME_ROOM - 1);
     body_function run = function_of(program, name);
     if (run == NULL) {
         fprintf(messages, "fmp: there is no function for the body %s\n", name);
@@ -344,14 +344,14 @@ static body_function find(const struct fmp_program *program, uint32_t kind, size
 static bool find_all(const struct fmp_program *program, FILE *messages)
 {
     bool all = true;
-    for (size_t task = 1; task <= fmp_count(&system_kernel, FMP_TASKS); task++) {
+    for (size_t task = 1; task <= fmp_count(&fmp_system_kernel, FMP_TASKS); task++) {
         all &= (tasks[task - 1].run = find(program, FMP_TASKS, task, messages)) != NULL;
     }
-    for (size_t cyclic = 1; cyclic <= fmp_count(&system_kernel, FMP_CYCLICS); cyclic++) {
+    for (size_t cyclic = 1; cyclic <= fmp_count(&fmp_system_kernel, FMP_CYCLICS); cyclic++) {
         all &= (cyclics[cyclic - 1] = find(program, FMP_CYCLICS, cyclic, messages)) != NULL;
     }
-    for (size_t at = 1; at <= fmp_count(&system_kernel, FMP_INTERRUPTS); at++) {
-        uint32_t number = fmp_detail(&system_kernel, FMP_INTERRUPTS, at);
+    for (size_t at = 1; at <= fmp_count(&fmp_system_kernel, FMP_INTERRUPTS); at++) {
+        uint32_t number = fmp_detail(&fmp_system_kernel, FMP_INTERRUPTS, at);
         all &= (interrupts[number - 1] = find(program, FMP_INTERRUPTS, at, messages)) != NULL;
     }
     return all;
@@ -361,13 +361,13 @@ static const char *name_of(size_t task)
 {
     static char names[TASKS][NAME_ROOM];
     char *name = names[task - 1];
-    name[fmp_name(&system_kernel, FMP_TASKS, task, (uint8_t *)name, NAME_ROOM - 1)] = '\0';
+    name[fmp_name(&fmp_system_kernel, FMP_TASKS, task, (uint8_t *)name, NAME_ROOM - 1)] = '\0';
     return name;
 }
 
 static bool take_stack(struct flow *flow, size_t size, FILE *messages)
 {
-    if (!coroutine_take(&flow->coroutine, size)) {
+    if (!fmp_coroutine_take(&flow->coroutine, size)) {
         fprintf(messages, "fmp: out of memory for the stack of %s\n", flow->name);
         return false;
     }
@@ -382,14 +382,14 @@ static bool take_stacks(FILE *messages)
         "the handlers of processor 4", "the handlers of processor 5", "the handlers of processor 6",
         "the handlers of processor 7", "the handlers of processor 8"
     };
-    for (size_t task = 1; task <= fmp_count(&system_kernel, FMP_TASKS); task++) {
+    for (size_t task = 1; task <= fmp_count(&fmp_system_kernel, FMP_TASKS); task++) {
         struct flow *flow = &tasks[task - 1];
         flow->name = name_of(task);
-        if (!take_stack(flow, fmp_detail(&system_kernel, FMP_TASKS, task) + SPARE_STACK, messages)) {
+        if (!take_stack(flow, fmp_detail(&fmp_system_kernel, FMP_TASKS, task) + SPARE_STACK, messages)) {
             return false;
         }
     }
-    for (uint32_t p = 1; p <= system_processors; p++) {
+    for (uint32_t p = 1; p <= fmp_system_processors; p++) {
         struct flow *flow = &handlers[p - 1];
         last[p - 1].others = ~(1u << (p - 1));
         last[p - 1].processor = (uint8_t)p;
@@ -422,8 +422,8 @@ static void complain_of_text(const fmp_refusal *why, FILE *messages)
 static enum fmp_opened make(const char *text, size_t length, FILE *messages)
 {
     fmp_refusal why = { 0, 0, 0 };
-    bool runs = atomic_load(&system_runs);
-    switch (runs ? FMP_HOLDS_ONE : fmp_new((const uint8_t *)text, length, &system_kernel, &why)) {
+    bool runs = atomic_load(&fmp_system_runs);
+    switch (runs ? FMP_HOLDS_ONE : fmp_new((const uint8_t *)text, length, &fmp_system_kernel, &why)) {
     case FMP_MADE:
         return FMP_OPENED;
     case FMP_REFUSED:
@@ -442,16 +442,16 @@ static enum fmp_opened make(const char *text, size_t length, FILE *messages)
 static enum fmp_opened equip(const struct fmp_program *program, FILE *messages)
 {
     fmp_event_counts counts = { 0, 0, 0, 0 };
-    fmp_counts(&system_kernel, &counts);
-    system_steppable = system_processors = counts.processors;
-    system_polls = program->polls != 0 ? program->polls : USUAL_POLLS;
+    fmp_counts(&fmp_system_kernel, &counts);
+    fmp_system_steppable = fmp_system_processors = counts.processors;
+    fmp_system_polls = program->polls != 0 ? program->polls : USUAL_POLLS;
     if (!find_all(program, messages)) {
         return FMP_BODY_MISSING;
     }
     if (!take_stacks(messages)) {
         return FMP_MEMORY_OUT;
     }
-    return program->image != NULL ? checked_make(program, messages) : FMP_OPENED;
+    return program->image != NULL ? fmp_checked_make(program, messages) : FMP_OPENED;
 }
 
 enum fmp_opened fmp_open(const char *text, size_t length, const struct fmp_program *program, FILE *trace,
@@ -470,33 +470,33 @@ enum fmp_opened fmp_open(const char *text, size_t length, const struct fmp_progr
     events_left = FMP_RESTART_AT;
     trace_file = trace;
     message_file = messages;
-    overflow_use(signal_stack);
-    overflow_watch(recording_save);
+    fmp_overflow_use(signal_stack);
+    fmp_overflow_watch(fmp_recording_save);
     follow(UINT32_MAX);
     return FMP_OPENED;
 }
 
 static void forget(struct flow *flow)
 {
-    coroutine_free(&flow->coroutine);
+    fmp_coroutine_free(&flow->coroutine);
     memset(flow, 0, sizeof *flow);
 }
 
 void fmp_close(void)
 {
-    if (system_inside() != NULL || atomic_load(&system_runs)) {
+    if (fmp_system_inside() != NULL || atomic_load(&fmp_system_runs)) {
         return;
     }
     fmp_record(NULL);
-    overflow_ignore();
+    fmp_overflow_ignore();
     for (size_t at = 0; at < TASKS; at++) {
         forget(&tasks[at]);
     }
     for (size_t at = 0; at < PROCESSORS; at++) {
         forget(&handlers[at]);
     }
-    fmp_free(&system_kernel);
-    system_steppable = system_processors = 0;
+    fmp_free(&fmp_system_kernel);
+    fmp_system_steppable = fmp_system_processors = 0;
 }
 
 void fmp_print_states(FILE *out)
@@ -504,23 +504,23 @@ void fmp_print_states(FILE *out)
     static const char *const words[] = {
         "", "RUNNING", "READY", "WAITING", "SUSPENDED", "WAITING-SUSPENDED", "DORMANT"
     };
-    for (size_t task = 1; task <= fmp_count(&system_kernel, FMP_TASKS); task++) {
+    for (size_t task = 1; task <= fmp_count(&fmp_system_kernel, FMP_TASKS); task++) {
         fmp_task_state state = { 0, 0, 0 };
-        fmp_state(&system_kernel, (uint8_t)task, &state);
+        fmp_state(&fmp_system_kernel, (uint8_t)task, &state);
         fprintf(out, "%s %s p%lu %lu\n", tasks[task - 1].name, words[state.word], (unsigned long)state.processor,
                 (unsigned long)state.priority);
     }
 }
 
-const struct flow *system_overflowing(const void *address)
+const struct flow *fmp_system_overflowing(const void *address)
 {
     for (size_t at = 0; at < TASKS; at++) {
-        if (coroutine_overflows(&tasks[at].coroutine, address)) {
+        if (fmp_coroutine_overflows(&tasks[at].coroutine, address)) {
             return &tasks[at];
         }
     }
     for (size_t at = 0; at < PROCESSORS; at++) {
-        if (coroutine_overflows(&handlers[at].coroutine, address)) {
+        if (fmp_coroutine_overflows(&handlers[at].coroutine, address)) {
             return &handlers[at];
         }
     }

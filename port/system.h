@@ -40,36 +40,36 @@ struct driver {
     void (*poll)(struct flow *);
 };
 
-extern fmp_system system_kernel;
-extern uint32_t system_processors;
-extern uint32_t system_steppable;               /* as many, or 0 once bodies were interrupted at any instruction */
-extern atomic_bool system_runs;                 /* in real time */
-extern unsigned long system_polls;              /* of the program */
-extern const struct driver *system_driver;      /* while bodies go on */
+extern fmp_system fmp_system_kernel;
+extern uint32_t fmp_system_processors;
+extern uint32_t fmp_system_steppable;               /* as many, or 0 once bodies were interrupted at any instruction */
+extern atomic_bool fmp_system_runs;                 /* in real time */
+extern unsigned long fmp_system_polls;              /* of the program */
+extern const struct driver *fmp_system_driver;      /* while bodies go on */
 
 /* The body that the invoking thread is in, or NULL. */
-struct flow *system_inside(void);
+struct flow *fmp_system_inside(void);
 
 /* Who acts on a processor, and what it was told last; and its body. */
-const fmp_actor *system_acting(uint8_t p);
-struct flow *system_flow(const fmp_actor *, uint8_t p);
+const fmp_actor *fmp_system_acting(uint8_t p);
+struct flow *fmp_system_flow(const fmp_actor *, uint8_t p);
 
 /* The thread goes on with a body until it leaves its coroutine. */
-void system_enter(struct coroutine *outside, struct flow *);
+void fmp_system_enter(struct coroutine *outside, struct flow *);
 
 /*
  * An event: enum fmp_answer. Where it was done, it is recorded, its bodies start and its lines are printed; and
  * `changes` says where it changed who acts. The first one hands in what the body that acts on a processor wishes, and
  * leaves that processor out.
  */
-uint32_t system_hand_in(uint8_t p, struct flow *, uint32_t *changes);
-uint32_t system_tick(uint32_t *changes);
-uint32_t system_interrupt(uint8_t number, uint32_t *changes);
+uint32_t fmp_system_hand_in(uint8_t p, struct flow *, uint32_t *changes);
+uint32_t fmp_system_tick(uint32_t *changes);
+uint32_t fmp_system_interrupt(uint8_t number, uint32_t *changes);
 
 /* The body that acts on a processor goes on until it has a wish, which is handed in. */
-uint32_t system_step(uint8_t p, const struct driver *, struct coroutine *outside);
+uint32_t fmp_system_step(uint8_t p, const struct driver *, struct coroutine *outside);
 
 /* The body whose stack an address would be on if it were larger, or NULL. */
-const struct flow *system_overflowing(const void *address);
+const struct flow *fmp_system_overflowing(const void *address);
 
 #endif

@@ -20,12 +20,12 @@ static void begin(struct flow *me)
 static void ask(struct flow *me, enum wish wish)
 {
     me->wish = wish;
-    coroutine_leave(&me->coroutine);
+    fmp_coroutine_leave(&me->coroutine);
 }
 
 static void poll(struct flow *me)
 {
-    if (++me->polls >= system_polls) {
+    if (++me->polls >= fmp_system_polls) {
         ask(me, KEEPS_ITS_PLACE);
     }
 }
@@ -36,24 +36,24 @@ static const struct driver in_virtual_time = { .begin = begin, .ask = ask, .poll
 
 uint32_t fmp_step_run(uint8_t p)
 {
-    return system_step(p, &in_virtual_time, &outside);
+    return fmp_system_step(p, &in_virtual_time, &outside);
 }
 
 static bool is_taken(void)
 {
-    return system_inside() != NULL || atomic_load(&system_runs);
+    return fmp_system_inside() != NULL || atomic_load(&fmp_system_runs);
 }
 
 uint32_t fmp_step_tick(void)
 {
     uint32_t changes;
-    return is_taken() ? FMP_NOTHING : system_tick(&changes);
+    return is_taken() ? FMP_NOTHING : fmp_system_tick(&changes);
 }
 
 uint32_t fmp_step_int(uint8_t number)
 {
     uint32_t changes;
-    return is_taken() ? FMP_NOTHING : system_interrupt(number, &changes);
+    return is_taken() ? FMP_NOTHING : fmp_system_interrupt(number, &changes);
 }
 
 /* Steps texts. */
@@ -98,7 +98,7 @@ static bool is_numbered(const char *line, size_t length, const char *word, int m
 static enum flaw read_step(const char *line, size_t length, struct step *step)
 {
     enum flaw flaw = FORM;
-    if (is_numbered(line, length, "run ", (int)system_processors, step, &flaw)) {
+    if (is_numbered(line, length, "run ", (int)fmp_system_processors, step, &flaw)) {
         step->kind = RUN;
     } else if (is_numbered(line, length, "int ", INTERRUPTS, step, &flaw)) {
         step->kind = INTERRUPT;
@@ -187,31 +187,31 @@ static int simulate(const struct files *files, const struct texts *texts, struct
     if (fmp_open(texts->cfg, texts->cfg_length, &program, stdout, stderr) != FMP_OPENED) {
         return 1;
     }
-    if (!files_create(files->recording, &recording)) {
+    if (!fmp_files_create(files->recording, &recording)) {
         fmp_close();
         return 3;
     }
-    overflow_watch_exit();
+    fmp_overflow_watch_exit();
     fmp_record(recording);
     int status = play_all(texts);
     fmp_close();
-    bool is_printed = files_flush_output();
-    return files_close(recording, files->recording) && is_printed ? status : 3;
+    bool is_printed = fmp_files_flush_output();
+    return fmp_files_close(recording, files->recording) && is_printed ? status : 3;
 }
 
 /* Reads the files. Whether all of them can be read. */
 static bool read_texts(const struct files *files, struct texts *texts)
 {
-    return (files->image == NULL || (texts->image = files_text(files->image, &texts->image_length)) != NULL)
-        && (texts->cfg = files_text(files->cfg, &texts->cfg_length)) != NULL
-        && (texts->steps = files_text(files->steps, &texts->steps_length)) != NULL;
+    return (files->image == NULL || (texts->image = fmp_files_text(files->image, &texts->image_length)) != NULL)
+        && (texts->cfg = fmp_files_text(files->cfg, &texts->cfg_length)) != NULL
+        && (texts->steps = fmp_files_text(files->steps, &texts->steps_length)) != NULL;
 }
 
 static bool writes_over_input(const struct files *files)
 {
     return files->recording != NULL
-        && ((files->image != NULL && files_are_one(files->recording, files->image))
-            || files_are_one(files->recording, files->cfg) || files_are_one(files->recording, files->steps));
+        && ((files->image != NULL && fmp_files_are_one(files->recording, files->image))
+            || fmp_files_are_one(files->recording, files->cfg) || fmp_files_are_one(files->recording, files->steps));
 }
 
 int fmp_simulate(int argc, char **argv, const struct fmp_program *program)

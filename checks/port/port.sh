@@ -130,6 +130,14 @@ real() {
     done
 }
 
+# A program may have all names that do not begin with fmp_.
+names() {
+    for source in "$root"/port/*.c; do
+        nm -g --defined-only "plain/$(basename "$source" .c).o"
+    done > output
+    verdict "names of the port" "$(awk '$3 !~ /^fmp_/ { print $3 }' output)"
+}
+
 # performed KIND COMPILER FLAG..: the examples that are compiled, for real time.
 performed() {
     kind=$1
@@ -432,6 +440,7 @@ headers() {
 }
 
 compiled plain "$cc" -O2
+names
 examples plain
 replays plain
 mistakes plain

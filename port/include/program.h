@@ -1,4 +1,7 @@
-/* program.h: programs of C tasks and handlers, which virtual.h runs in virtual time, and live.h in real time. */
+/*
+ * program.h: programs of C tasks and handlers, which virtual.h runs in virtual time, and live.h in real time. The names
+ * that the library links begin with fmp_ or rattle_.
+ */
 #ifndef FMP_PROGRAM_H
 #define FMP_PROGRAM_H
 
