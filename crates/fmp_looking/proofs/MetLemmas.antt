@@ -16,6 +16,50 @@ use Rattle.fmp_looking.specs.declared.trying.Trials.{Trials}
 use Rattle.fmp_looking.specs.CallSentences.{breaks_by}
 use Rattle.fmp_looking.specs.Tested.{AreFirstOf, IsFirstOf, subject_in}
 
+plus_none : (k : ℕ) → k + 0 ≡ k
+plus_none k = omega arith
+
+plus_one : (k : ℕ) → k + 0 + 1 ≡ k + 1
+plus_one k = omega arith
+
+none_plus : (j : ℕ) → j ≡ 0 + j
+none_plus j = omega arith
+
+later : (k j : ℕ) → k + suc j ≡ k + 1 + j
+later k j = omega arith
+
+later_end : (k j : ℕ) → k + suc j + 1 ≡ k + 1 + j + 1
+later_end k j = omega arith
+
+ends : (k n parts : ℕ) → k + suc n ≡ parts → k + 1 + n ≡ parts
+ends k n parts is = omega (arith, is)
+
+-- where parts of seeds begin and end
+beyond : (b l x n : ℕ) → min (b + x) l < n → n ≤ l → b < n
+beyond b l x n after last = omega (arith, after, last)
+
+at_end : (b l x : ℕ) → l - b ≤ x → min (b + x) l ≡ l
+at_end b l x enough = omega (arith, enough)
+
+bounded : (b l x : ℕ) → min (b + x) l ≤ l
+bounded b l x = omega arith
+
+not_beyond : (seeds : Seeds) (parts k : ℕ) → edge seeds parts k ≤ seeds.last
+not_beyond seeds parts k = bounded seeds.before seeds.last (k * div_ceil (seeds.last - seeds.before) parts)
+
+first_edge : (seeds : Seeds) (parts : ℕ) → edge seeds parts 0 ≤ seeds.before
+first_edge seeds parts = omega arith
+
+last_edge : (seeds : Seeds) (parts : ℕ) → 0 < parts → edge seeds parts parts ≡ seeds.last
+last_edge seeds parts some =
+    let each = div_ceil (seeds.last - seeds.before) parts in
+    let enough = (div_ceil_times (seeds.last - seeds.before) parts some).0 in
+    at_end seeds.before seeds.last (parts * each) (grind (arith, enough))
+
+after_edge : (seeds : Seeds) (parts k n : ℕ) → edge seeds parts k < n → n ≤ seeds.last → seeds.before < n
+after_edge seeds parts k n after last =
+    beyond seeds.before seeds.last (k * div_ceil (seeds.last - seeds.before) parts) n after last
+
 module _ (t : Trials) where
   abbrev pub Met : (before last : ℕ) → Type 0
   Met before last =
@@ -54,39 +98,6 @@ module _ (t : Trials) where
       }
 
   module _ {E : Type 0} (seeds : Seeds) (parts : ℕ) (some : 0 < parts) where
-    abbrev each : ℕ
-    each = div_ceil (seeds.last - seeds.before) parts
-
-    -- a part ends where the next one begins, and none goes beyond the last seed
-    within : (b l x : ℕ) → min (b + x) l ≤ l
-    within b l x = omega arith
-
-    beyond : (b l x n : ℕ) → min (b + x) l < n → n ≤ l → b < n
-    beyond b l x n after last = omega (arith, after, last)
-
-    at_end : (b l x : ℕ) → l - b ≤ x → min (b + x) l ≡ l
-    at_end b l x enough = omega (arith, enough)
-
-    last_edge : edge seeds parts parts ≡ seeds.last
-    last_edge =
-        let enough = (div_ceil_times (seeds.last - seeds.before) parts some).0 in
-        at_end seeds.before seeds.last (parts * each) (grind (arith, enough))
-
-    first_edge : edge seeds parts 0 ≤ seeds.before
-    first_edge = omega arith
-
-    plus_none : (k : ℕ) → k + 0 ≡ k
-    plus_none k = omega arith
-
-    plus_one : (k : ℕ) → k + 0 + 1 ≡ k + 1
-    plus_one k = omega arith
-
-    later : (k j : ℕ) → k + suc j ≡ k + 1 + j
-    later k j = omega arith
-
-    later_end : (k j : ℕ) → k + suc j + 1 ≡ k + 1 + j + 1
-    later_end k j = omega arith
-
     abbrev AreFrom : (k : ℕ) → List (Result (Option FailingSeed) E) → Type 0
     AreFrom k found =
         (j : ℕ) (d : Result (Option FailingSeed) E) → j < length found
@@ -111,29 +122,23 @@ module _ (t : Trials) where
         (subst (λ (z : ℕ). IfOk r (IsFirstOf t (edge seeds parts (k + 0)) (edge seeds parts z))) (plus_one k)
         (all 0 r (omega arith)))
 
-    ends : (k n : ℕ) → k + suc n ≡ parts → k + 1 + n ≡ parts
-    ends k n is = omega (arith, is)
-
     first_from : (k : ℕ) (found : List (Result (Option FailingSeed) E)) → AreFrom k found → k + length found ≡ parts
         → Met seeds.before (edge seeds parts k) → IfOk (first_of found) (IsFirstOf t seeds.before seeds.last)
     first_from k [] all end met =
         subst (λ (n : ℕ). Met seeds.before n)
-        (ap (λ (n : ℕ). edge seeds parts n) (omega (arith, end)) ∙ last_edge) met
+        (ap (λ (n : ℕ). edge seeds parts n) (sym (plus_none k) ∙ end) ∙ last_edge seeds parts some) met
     first_from k (Err e ∷ found) all end met = tt
     first_from k (Ok (Some f) ∷ found) all end met =
         let is : IsFirstOf t (edge seeds parts k) (edge seeds parts (k + 1)) (Some f) =
         here k (Ok (Some f)) found all in
         let after : edge seeds parts k < f.seed = is.after in
         let high : f.seed ≤ edge seeds parts (k + 1) = is.last in
-        let most : edge seeds parts (k + 1) ≤ seeds.last = within seeds.before seeds.last ((k + 1) * each) in
+        let most : edge seeds parts (k + 1) ≤ seeds.last = not_beyond seeds parts (k + 1) in
         first_of_more seeds.before (edge seeds parts k) (edge seeds parts (k + 1)) seeds.last f met
-        (beyond seeds.before seeds.last (k * each) f.seed after (omega (arith, high, most))) most is
+        (after_edge seeds parts k f.seed after (omega (arith, high, most))) most is
     first_from k (Ok None ∷ found) all end met =
-        first_from (k + 1) found (after_one k (Ok None) found all) (ends k (length found) end)
+        first_from (k + 1) found (after_one k (Ok None) found all) (ends k (length found) parts end)
         (both_met seeds.before (edge seeds parts k) (edge seeds parts (k + 1)) met (here k (Ok None) found all))
-
-    begins : (j : ℕ) → 0 + j ≡ j
-    begins j = omega arith
 
     -- the first of all parts
     pub first_of_parts : (found : List (Result (Option FailingSeed) E)) → AreFirstOf t seeds parts found
@@ -142,8 +147,8 @@ module _ (t : Trials) where
         first_from 0 found
         (λ j d few. subst
         (λ (i : ℕ). IfOk (slice_index_or found j d) (IsFirstOf t (edge seeds parts i) (edge seeds parts (i + 1))))
-        (omega arith) (are.1 j d (omega (arith, few, are.0))))
-        (omega (arith, are.0)) (none_met seeds.before (edge seeds parts 0) first_edge)
+        (none_plus j) (are.1 j d (omega (arith, few, are.0))))
+        (omega (arith, are.0)) (none_met seeds.before (edge seeds parts 0) (first_edge seeds parts))
 
   -- the first of a round, after rounds in which none was found
   pub first_of_round : (before begin end last : ℕ) (f : FailingSeed) → Met 0 before → begin ≡ before → end ≤ last
@@ -163,10 +168,15 @@ module _ (t : Trials) where
   pub after_rounds : (before last : ℕ) → last ≤ before → Met 0 before → Met 0 last
   after_rounds before last enough met = fewer_met 0 before last enough met
 
-  pub is_found : (last : ℕ) (f : FailingSeed) (r : FailedTrial) → IsFirstOf t 0 last (Some f)
-      → IsShortened code_meaning breaks_by (subject_in t) f r
+  pub is_found : (last n : ℕ) (f : FailingSeed) (r : FailedTrial) → IsFirstOf t 0 n (Some f)
+      → IsShortened code_meaning breaks_by (subject_in t) f r → n ≡ last
       → IsFound code_meaning breaks_by (subject_in t) t.plan last r
-  is_found last f r is shortened = record { failing = f; is = is; shortened = shortened }
+  is_found last n f r is shortened same =
+      record {
+        failing = f;
+        is = subst (λ (m : ℕ). IsFirstOf t 0 m (Some f)) same is;
+        shortened = shortened;
+      }
 
 -- a round without seeds is after the last one
 pub no_more : (before last begin end count : ℕ) → begin ≡ before → (before < last → before < end) → count ≡ end - begin

@@ -1,5 +1,5 @@
 use Rattle.std.proofs.Common.{◌≤◌, ℕ, arith}
-use Rattle.fmp_looking.proofs.MetLemmas.{after_round, after_rounds, first_of_round, no_more, none_met}
+use Rattle.fmp_looking.proofs.MetLemmas.{after_rounds, first_of_round, no_more, none_met}
 use Rattle.fmp_looking.proofs.trying_beside.first_failing_beside.Goals as goal
 
 pub loop-round-init : goal.loop-round-init
@@ -23,6 +23,13 @@ returns-then-count-eq0 g c =
 
 enough : (last turn before : ℕ) → last ≤ turn → turn ≤ before → last ≤ before
 enough last turn before over on = omega (arith, over, on)
+
+pub returns-in-Some : goal.returns-in-Some
+returns-in-Some g c =
+    let seeds = c.seeds-seeds.result in
+    first_of_round c.args.trials.now c.loop-round.round.before seeds.before seeds.last c.args.last c.in-Some.found
+    c.loop-round.invariant.met c.seeds-seeds.ensures.before c.seeds-seeds.ensures.most
+    (rw c.in-Some.is at c.in_ok-found.ensures)
 
 pub returns : goal.returns
 returns g c =
