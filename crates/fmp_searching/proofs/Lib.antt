@@ -16,3 +16,4 @@ mod Worded
 mod FindingTexts
 mod PlainClaims
 mod PrintedNevers
+mod TextCalls

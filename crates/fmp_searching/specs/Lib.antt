@@ -30,3 +30,4 @@ pub mod TextSchedules
 pub mod Unsaid
 pub mod Varied
 pub mod Words
+pub mod TextCalls

@@ -25,9 +25,11 @@ ghost use Rattle.fmp_tasklang.specs.Texts.{text_meaning};
 ghost use Rattle.fmp_searching.specs.Claims.{bound_text, faults_text, forbids_fault, lists_text, never_text};
 ghost use Rattle.fmp_searching.specs.Extent.{words_of};
 ghost use Rattle.fmp_searching.specs.Sentences.{is_worded};
+ghost use Rattle.fmp_searching.specs.TextCalls.{CallsHaveLines};
 ghost use Rattle.fmp_searching.specs.TextSchedules.{NeverTold};
 ghost use Rattle.fmp_searching.specs.Words.{is_worded_never, never_named};
 
+use fmp_codegen::laws::code_keeps_calls;
 use fmp_expect::sentences_are_read_as_written;
 use fmp_image::laws::{built_image_does_text, built_image_prints_text};
 
@@ -98,3 +100,11 @@ pub fn plain_claims_are_of_all_lists<C>()
         (sys : SystemTables) (M : Meaning C) (n : ℕ) (forbidden : Line → Bool) (es : List Event) →
         IsSchedule (rules_of q) sys M n forbidden es }
 {}
+
+/// Where two texts build an image, the calls of its code are those of the task text, body by body and in order, and the
+/// lines that are taken for them are those in which they stand.
+pub fn calls_have_lines()
+    ensures { CallsHaveLines }
+{
+    code_keeps_calls();
+}
