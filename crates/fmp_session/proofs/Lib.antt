@@ -1,2 +1,5 @@
+mod CommandLaws
 pub mod Digits
 pub mod Following
+mod SpinLaws
+pub mod Taking

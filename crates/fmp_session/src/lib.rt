@@ -4,6 +4,7 @@
 mod answers;
 mod command;
 mod interrupts;
+mod laws;
 mod numbers;
 mod replaying;
 mod session;
@@ -12,5 +13,6 @@ mod telling;
 pub use answers::{answer_line, failure_line, note, object_record};
 pub use command::{Command, LineMistake, argument_of, command_of, word_of};
 pub use interrupts::NamedInterrupt;
+pub use laws::{calls_that_do_nothing_spin, lines_of_steps_are_commands, once_goes_without_saying};
 pub use session::{Session, TakenEvent};
 pub use telling::{append_kept, append_nothing};

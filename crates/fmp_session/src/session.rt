@@ -1,10 +1,11 @@
 //! The events of a session, and the kernel after them.
-ghost use Rattle.std.specs.Prelude.{◌≡◌, ◌-◌, ◌++◌, IfOk, OnErr, OnOk, [], length, take};
+ghost use Rattle.std.specs.Prelude.{◌≡◌, ◌-◌, ◌++◌, ◌∷◌, IfOk, OnErr, OnOk, [], length, take};
 ghost use Rattle.fmp_drive.specs.NextRuns.{AreNext};
 ghost use Rattle.fmp_instructions.specs.Machine.{code_meaning};
 ghost use Rattle.fmp_frames.specs.Made.{event_position as position_of};
 ghost use Rattle.fmp_trace.specs.Steps.{steps_text};
 ghost use Rattle.fmp_session.specs.Sessions.{IsSession, IsTakenAs, lines_now, records_now, with_event};
+ghost use Rattle.fmp_session.specs.Taking.{HasTaken};
 
 use crate::replaying::kernel_over;
 use fmp_base::{Effect, Event};
@@ -103,6 +104,7 @@ impl<'a> Session<'a> {
         ensures bound { self.new.bound ≡ self.old.bound }
         ensures events { IfOk result (λ taken. self.new.events.items ≡ with_event taken e self.old.events.items) }
         ensures exact { IfOk result (λ taken. IsTakenAs self.old e taken) }
+        ensures takes { OnOk result (HasTaken self.old (e ∷ []) self.new) }
         ensures err { OnErr result (self.new.events.items ≡ self.old.events.items) }
     {
         if self.kernel.taken() >= MOST {
