@@ -1,5 +1,5 @@
 -- What a session tells of its kernel, and what it leaves.
-use Rattle.std.specs.Prelude.{ℕ, ◌≡◌, List, [], ◌∷◌, Bool, false, true, Option, length}
+use Rattle.std.specs.Prelude.{ℕ, ◌≡◌, ◌-◌, List, [], ◌∷◌, Bool, false, true, Ok, Option, length, replicate, take}
 use Rattle.fmp_base.specs.declared.events.Event.{Event}
 use Rattle.fmp_base.specs.Runs.{task_state}
 use Rattle.fmp_base.specs.States.{task_at}
@@ -10,15 +10,20 @@ use Rattle.fmp_instructions.specs.declared.instructions.MachineContext.{MachineC
 use Rattle.fmp_instructions.specs.Instructions.{BodyTables}
 use Rattle.fmp_kernel.specs.KernelViews.{KernelView}
 use Rattle.fmp_frames.specs.declared.call_positions.CallPosition.{CallPosition}
+use Rattle.fmp_session.specs.declared.command.Command.{Command}
+use Rattle.fmp_session.specs.declared.command.Command.TheVariants as command
 use Rattle.fmp_session.specs.declared.session.Session.{Session}
 use Rattle.fmp_session.specs.declared.session.TakenEvent.{TakenEvent}
 use Rattle.fmp_session.specs.declared.session.TakenEvent.TheVariants as taken
 use Rattle.fmp_session.specs.Sessions.{IsTakenAs, lines_now, records_now, with_event}
 use Rattle.fmp_looking.specs.Traces.{states_text}
-use Rattle.fmp_trace.specs.Steps.{steps_text}
+use Rattle.fmp_searching.specs.Claimed.{IsFile}
+use Rattle.fmp_session.specs.Taking.{HasTaken}
+use Rattle.fmp_trace.specs.Steps.{steps_of, steps_text}
 use Rattle.fmp_view.specs.Apart.{IsApartFromTexts}
 use Rattle.fmp_view.specs.declared.answering.Answer.{Answer}
 use Rattle.fmp_view.specs.declared.answering.Answer.TheVariants as answer
+use Rattle.fmp_view.specs.declared.answering.GivenCommand.{GivenCommand}
 use Rattle.fmp_warnings.specs.declared.verdicts.FileNames.{FileNames}
 use Rattle.fmp_warnings.specs.declared.verdicts.Form.{Form}
 use Rattle.fmp_warnings.specs.declared.verdicts.Form.TheVariants as form
@@ -39,6 +44,48 @@ abbrev pub Leaves : (before after : Session) → Answer → Type 0
 Leaves before after (answer.Told text) = Unit {0}
 Leaves before after (answer.Refused reason) = after.events.items ≡ before.events.items
 Leaves before after (answer.NoFile failure) = after.events.items ≡ before.events.items
+
+-- what is so where something is told
+abbrev pub IfTold : Type 0 → Answer → Type 0
+IfTold P (answer.Told text) = P
+IfTold P (answer.Refused reason) = Unit {0}
+IfTold P (answer.NoFile failure) = Unit {0}
+
+-- the events of a steps text were taken
+pub record HasTakenText (before : Session) (text : List ℕ) (after : Session) : Type 0 where
+  pub events : List Event
+  pub read : steps_of before.image.now.system.processors text ≡ Ok events
+  pub taken : HasTaken before events after
+
+-- those of the text of a file
+pub record Loads (files : Files) (name : List ℕ) (before after : Session) : Type 0 where
+  pub text : List ℕ
+  pub is_text : IsFile files name text
+  pub taken : HasTakenText before text after
+
+-- some events were taken
+pub record GoesOn (before after : Session) : Type 0 where
+  pub events : List Event
+  pub taken : HasTaken before events after
+
+-- events without the last of them, this many
+abbrev pub events_back : (count : ℕ) → List Event → List Event
+events_back count es = take (length es - count) es
+
+-- what a command that reaches nothing outside does to the events
+abbrev pub Leads : (before : Session) → Command → (after : Session) → Type 0
+Leads before (command.Take e times) after = HasTaken before (replicate times e) after
+Leads before (command.Back count) after = after.events.items ≡ events_back count before.events.items
+Leads before _ after = after.events.items ≡ before.events.items
+
+-- what a command does to the events that is told of
+abbrev pub DoesBy : Files → (before : Session) → Command → (argument : List ℕ) → (after : Session) → Type 0
+DoesBy files before command.Load argument after = Loads files argument before after
+DoesBy files before command.Until argument after = GoesOn before after
+DoesBy files before c argument after = Leads before c after
+
+abbrev pub Answers : Files → (before : Session) → GivenCommand → (after : Session) → Answer → Type 0
+Answers files before given after = IfTold (DoesBy files before given.command given.argument.now after)
 
 -- the kinds of answers
 abbrev pub IsTold : Answer → Type 0

@@ -1,7 +1,9 @@
 //! What the commands of a session answer.
-ghost use Rattle.std.specs.Prelude.{◌≡◌, ◌++◌, IfOk, OnOk};
+ghost use Rattle.std.specs.Prelude.{◌≡◌, ◌++◌, ◌∷◌, IfOk, OnOk, [], replicate};
 ghost use Rattle.fmp_session.specs.Sessions.{IsSession, IsTakenAs, with_event};
-ghost use Rattle.fmp_view.specs.Stepped.{Leaves, Takes, is_deed, last_lines, states_text_of};
+ghost use Rattle.fmp_session.specs.Taking.{HasTaken};
+ghost use Rattle.fmp_view.specs.Stepped.{Answers, Leads, Leaves, Takes, events_back, is_deed, last_lines};
+ghost use Rattle.fmp_view.specs.Stepped.{states_text_of};
 
 use crate::session_files::{load, save};
 use crate::session_objects::state_of;
@@ -202,6 +204,7 @@ pub fn take_event(
     ensures events { IfOk result (λ taken. session.new.events.items
         ≡ with_event taken e session.old.events.items) }
     ensures exact { IfOk result (IsTakenAs session.old e) }
+    ensures takes { OnOk result (HasTaken session.old (e ∷ []) session.new) }
 {
     let position = told_position(session, stepping, e);
     let taken = session.take(e)?;
@@ -234,12 +237,14 @@ pub fn take_one(
     requires { IsSession session.old }
     ensures session { IsSession session.new }
     ensures takes { IfOk result (λ did. Takes session.old e did session.new) }
+    ensures has { OnOk result (HasTaken session.old (e ∷ []) session.new) }
 {
     let taken = take_event(alloc, session, stepping, e, true, out)?;
     Ok(is_deed(taken))
 }
 
 /// Takes an event this many times, up to the first time that it does nothing, and gives what is told of it.
+#[tactic(auto, using(fmp_session::proofs::Taking::has_none, fmp_session::proofs::Taking::has_again))]
 fn taken_text(
     alloc: Global,
     session: &mut Session<'_>,
@@ -248,7 +253,8 @@ fn taken_text(
     times: u32,
 ) -> Result<Vec<u8>, AllocError>
     requires { IsSession session.old }
-    ensures { IsSession session.new }
+    ensures session { IsSession session.new }
+    ensures has { OnOk result (HasTaken session.old (replicate times e) session.new) }
 {
     let mut out = Vec::new(alloc);
     for _turn in 0..times {
@@ -283,7 +289,8 @@ fn back_text(
     count: u32,
 ) -> Result<Vec<u8>, AllocError>
     requires { IsSession session.old }
-    ensures { IsSession session.new }
+    ensures session { IsSession session.new }
+    ensures events { OnOk result (session.new.events.items ≡ events_back count session.old.events.items) }
 {
     let events = session.events();
     let left = events.len().saturating_sub(count as usize);
@@ -330,7 +337,8 @@ fn told(
     command: Command,
 ) -> Result<Vec<u8>, AllocError>
     requires { IsSession session.old }
-    ensures { IsSession session.new }
+    ensures session { IsSession session.new }
+    ensures leads { OnOk result (Leads session.old command session.new) }
 {
     let form = stepping.form;
     match command {
@@ -360,6 +368,7 @@ pub fn answer_of<O: Outside>(
     requires { IsSession session.old }
     ensures session { IsSession session.new }
     ensures leaves { IfOk result (Leaves session.old session.new) }
+    ensures answers { IfOk result (Answers (O.files outside.old) session.old given.entry session.new) }
 {
     match given.command {
         Command::StateOf => state_of(alloc, session, stepping.form, given.argument),

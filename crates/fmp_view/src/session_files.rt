@@ -1,7 +1,8 @@
 //! The files of a session: steps that it takes, and steps that it writes.
-ghost use Rattle.std.specs.Prelude.{IfOk};
+ghost use Rattle.std.specs.Prelude.{IfOk, OnOk};
 ghost use Rattle.fmp_session.specs.Sessions.{IsSession};
-ghost use Rattle.fmp_view.specs.Stepped.{IsNoFile, IsRefused, IsTold, Leaves, Saves};
+ghost use Rattle.fmp_session.specs.Taking.{HasTaken};
+ghost use Rattle.fmp_view.specs.Stepped.{HasTakenText, IfTold, IsNoFile, IsRefused, IsTold, Leaves, Loads, Saves};
 
 use crate::answering::{Answer, Stepping, append_told, take_one};
 use crate::inputs::is_text;
@@ -41,6 +42,7 @@ fn no_file(failure: Failure) -> Result<Answer, AllocError>
 }
 
 /// Takes events, each of which may do nothing, and gives what is told of them.
+#[tactic(auto, using(fmp_session::proofs::Taking::has_none, fmp_session::proofs::Taking::has_all))]
 fn take_all(
     alloc: Global,
     session: &mut Session<'_>,
@@ -48,7 +50,8 @@ fn take_all(
     events: &[Event],
 ) -> Result<Vec<u8>, AllocError>
     requires { IsSession session.old }
-    ensures { IsSession session.new }
+    ensures session { IsSession session.new }
+    ensures has { OnOk result (HasTaken session.old events.now session.new) }
 {
     let mut out = Vec::new(alloc);
     for e in events {
@@ -58,7 +61,7 @@ fn take_all(
 }
 
 /// Takes the events of a steps text, if there is room for all of them.
-#[tactic(auto, using(crate::proofs::SessionLemmas::leaves_all))]
+#[tactic(auto, using(crate::proofs::SessionLemmas::leaves_all, crate::proofs::SessionLemmas::refused_told, crate::proofs::SessionLemmas::no_file_told))]
 fn take_events(
     alloc: Global,
     session: &mut Session<'_>,
@@ -68,6 +71,7 @@ fn take_events(
     requires { IsSession session.old }
     ensures session { IsSession session.new }
     ensures leaves { IfOk result (Leaves session.old session.new) }
+    ensures has { IfOk result (IfTold (HasTaken session.old events.now session.new)) }
 {
     if events.len() > (EVENTS_MAX as usize).saturating_sub(session.events().len()) {
         return refused(alloc, TOO_MANY);
@@ -76,7 +80,7 @@ fn take_events(
 }
 
 /// Takes the events of the steps text of a file of this name, if it has no fault.
-#[tactic(auto, using(crate::proofs::SessionLemmas::leaves_all))]
+#[tactic(auto, using(crate::proofs::SessionLemmas::leaves_all, crate::proofs::SessionLemmas::refused_told, crate::proofs::SessionLemmas::no_file_told))]
 fn take_text(
     alloc: Global,
     session: &mut Session<'_>,
@@ -87,6 +91,7 @@ fn take_text(
     requires { IsSession session.old }
     ensures session { IsSession session.new }
     ensures leaves { IfOk result (Leaves session.old session.new) }
+    ensures has { IfOk result (IfTold (HasTakenText session.old text.now session.new)) }
 {
     match events_of(alloc, text, session.image().system().processors) {
         Ok(events) => take_events(alloc, session, stepping, &events),
@@ -96,7 +101,7 @@ fn take_text(
 }
 
 /// Takes the events of the steps text of a file.
-#[tactic(auto, using(crate::proofs::SessionLemmas::leaves_all))]
+#[tactic(auto, using(crate::proofs::SessionLemmas::leaves_all, crate::proofs::SessionLemmas::refused_told, crate::proofs::SessionLemmas::no_file_told))]
 pub fn load<O: Outside>(
     alloc: Global,
     outside: &O,
@@ -107,6 +112,7 @@ pub fn load<O: Outside>(
     requires { IsSession session.old }
     ensures session { IsSession session.new }
     ensures leaves { IfOk result (Leaves session.old session.new) }
+    ensures loads { IfOk result (IfTold (Loads (O.files outside.now) name.now session.old session.new)) }
 {
     let Ok(name) = str::from_utf8(name) else {
         return refused(alloc, NOT_UTF8);

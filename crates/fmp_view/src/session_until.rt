@@ -1,7 +1,7 @@
 //! A session that goes on until a deed happens.
-ghost use Rattle.std.specs.Prelude.{IfOk};
+ghost use Rattle.std.specs.Prelude.{IfOk, OnOk};
 ghost use Rattle.fmp_session.specs.Sessions.{IsSession};
-ghost use Rattle.fmp_view.specs.Stepped.{Leaves};
+ghost use Rattle.fmp_view.specs.Stepped.{GoesOn, IfTold, Leaves};
 
 use crate::answering::{Answer, Stepping, append_told, take_event};
 use crate::session_files::refused;
@@ -107,6 +107,7 @@ fn is_due(session: &Session<'_>) -> bool {
 
 /// Takes the next event that does something, and appends what is told of it: a run of a processor, in turn from the one
 /// at this place on; else a tick, if it can change something.
+#[tactic(auto, using(crate::proofs::SessionLemmas::goes_none, crate::proofs::SessionLemmas::goes_more))]
 fn take_next(
     alloc: Global,
     session: &mut Session<'_>,
@@ -115,7 +116,8 @@ fn take_next(
     out: &mut Vec<u8>,
 ) -> Result<Option<(Event, TakenEvent)>, AllocError>
     requires { IsSession session.old }
-    ensures { IsSession session.new }
+    ensures session { IsSession session.new }
+    ensures goes { OnOk result (GoesOn session.old session.new) }
 {
     let processors = session.image().system().processors.max(1);
     for place in 0..processors {
@@ -175,6 +177,7 @@ fn quiet_text(session: &Session<'_>) -> &'static [u8] {
 
 /// Goes on until the deed of a checker happens, nothing goes on, the session is full or this many events have come, and
 /// appends what is told of them.
+#[tactic(auto, using(crate::proofs::SessionLemmas::goes_none, crate::proofs::SessionLemmas::goes_then))]
 fn go_on(
     alloc: Global,
     session: &mut Session<'_>,
@@ -184,7 +187,8 @@ fn go_on(
     out: &mut Vec<u8>,
 ) -> Result<Stop, AllocError>
     requires { IsSession session.old }
-    ensures { IsSession session.new }
+    ensures session { IsSession session.new }
+    ensures goes { OnOk result (GoesOn session.old session.new) }
 {
     let mut turn = 0;
     for _event in 0..most {
@@ -227,7 +231,8 @@ fn told_until(
     awaited: Awaited<'_>,
 ) -> Result<Vec<u8>, AllocError>
     requires { IsSession session.old }
-    ensures { IsSession session.new }
+    ensures session { IsSession session.new }
+    ensures goes { OnOk result (GoesOn session.old session.new) }
 {
     let mut checker = Checker::new(alloc, expected)?;
     let mut out = Vec::new(alloc);
@@ -252,7 +257,7 @@ fn is_never(expected: &[Expected]) -> bool {
 }
 
 /// Goes on until the deed happens that must never happen by these expectations.
-#[tactic(auto, using(crate::proofs::SessionLemmas::leaves_all))]
+#[tactic(auto, using(crate::proofs::SessionLemmas::leaves_all, crate::proofs::SessionLemmas::refused_told))]
 fn until_broken(
     alloc: Global,
     session: &mut Session<'_>,
@@ -263,6 +268,7 @@ fn until_broken(
     requires { IsSession session.old }
     ensures session { IsSession session.new }
     ensures leaves { IfOk result (Leaves session.old session.new) }
+    ensures goes { IfOk result (IfTold (GoesOn session.old session.new)) }
 {
     if !is_never(expected) {
         return refused(alloc, WANTED);
@@ -291,7 +297,7 @@ fn session_flaw(flaw: ExpectationFlaw) -> ExpectationFlaw {
 }
 
 /// Goes on until a deed happens, at most for as many events as may come.
-#[tactic(auto, using(crate::proofs::SessionLemmas::leaves_all))]
+#[tactic(auto, using(crate::proofs::SessionLemmas::leaves_all, crate::proofs::SessionLemmas::refused_told))]
 fn until_awaited(
     alloc: Global,
     session: &mut Session<'_>,
@@ -301,6 +307,7 @@ fn until_awaited(
     requires { IsSession session.old }
     ensures session { IsSession session.new }
     ensures leaves { IfOk result (Leaves session.old session.new) }
+    ensures goes { IfOk result (IfTold (GoesOn session.old session.new)) }
 {
     let text = never_text(alloc, awaited.deed)?;
     let sys = session.image().system();
@@ -317,7 +324,7 @@ fn until_awaited(
 /// Goes on until a deed happens, as a line says after `until`: the processors run in turn, and the clock ticks where
 /// none of them does anything. It stops where nothing goes on any more, where the session is full, and after as many
 /// events as the line says after `within`, or 1,000.
-#[tactic(auto, using(crate::proofs::SessionLemmas::leaves_all))]
+#[tactic(auto, using(crate::proofs::SessionLemmas::leaves_all, crate::proofs::SessionLemmas::refused_told))]
 pub fn until(
     alloc: Global,
     session: &mut Session<'_>,
@@ -327,6 +334,7 @@ pub fn until(
     requires { IsSession session.old }
     ensures session { IsSession session.new }
     ensures leaves { IfOk result (Leaves session.old session.new) }
+    ensures goes { IfOk result (IfTold (GoesOn session.old session.new)) }
 {
     match awaited_in(text) {
         Some(awaited) => until_awaited(alloc, session, stepping, awaited),
