@@ -14,7 +14,8 @@ use Rattle.fmp_looking.specs.TestDeeds.{EndsTest, IsDone, IsRefusal}
 use Rattle.fmp_view.specs.declared.asking.RunFiles.{RunFiles}
 use Rattle.fmp_view.specs.declared.asking.RunPair.{RunPair}
 use Rattle.fmp_view.specs.Verdicts.{EndsDiff, EndsFound, EndsTestTexts, EndsWhy, IsFilesDifference, IsWhyOf}
-use Rattle.fmp_view.proofs.Endings.{done_of, not_done}
+use Rattle.fmp_looking.proofs.TestEnds.{not_done}
+use Rattle.fmp_view.proofs.Endings.{done_of}
 
 pub ends_compared : (files : Files) (p : RunPair) (made : Result (Option (Vec ℕ)) ViewExit)
     (before after : Option (List Deed)) (status : ℕ)

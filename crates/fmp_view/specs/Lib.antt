@@ -1,12 +1,14 @@
 pub mod Apart
 pub mod Asked
 pub mod Commands
+pub mod Ends
 pub mod Expected
 pub mod Exports
+pub mod Form
 pub mod Imports
 pub mod Runs
 pub mod Settings
 pub mod Stepped
 pub mod Targets
+pub mod UnusedOptions
 pub mod Verdicts
-pub mod VoidOptions

@@ -1,6 +1,10 @@
--- Why settings are not used, and which words leave their file as it is.
+-- What settings add, why they are not used, and which words leave their file as it is.
 use Rattle.std.specs.Prelude.{ℕ, ◌≢◌, List, IfSome, codes}
-use Rattle.clap.specs.Words.{Row, first_of}
+use Rattle.clap.specs.Words.{Row, Text, first_of}
+use Rattle.fmp_arguments.specs.declared.keys.Key.{Key}
+use Rattle.fmp_arguments.specs.Joined.{IsAdded}
+use Rattle.fmp_files.specs.Outside.{Files}
+use Rattle.fmp_searching.specs.Claimed.{IsFile}
 use Rattle.fmp_view.specs.declared.settings.SettingsExit.{SettingsExit}
 use Rattle.fmp_view.specs.declared.settings.SettingsExit.TheVariants as exit
 
@@ -8,6 +12,15 @@ use Rattle.fmp_view.specs.declared.settings.SettingsExit.TheVariants as exit
 abbrev pub status_of : SettingsExit → ℕ
 status_of (exit.Refused text) = 1
 status_of (exit.Failed failure) = 3
+
+-- what the text of this file says for options of some names, by keys of settings and from a folder on
+pub record Adds (files : Files) (file : Text) (words : List Text) : Type 0 where
+  pub folder : Text
+  pub text : List ℕ
+  pub is_text : IsFile files file text
+  pub keys : List Key
+  pub names : List Text
+  pub says : IsAdded folder keys text names words
 
 -- the option of a name, if it is given, names another file
 abbrev pub IsApart : List Row → (option settings : List ℕ) → Type 0

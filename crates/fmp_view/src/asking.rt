@@ -1,5 +1,5 @@
 //! What the program is asked to do.
-ghost use Rattle.std.specs.Prelude.{◌≡◌, IsSomeAnd, List, Some, codes};
+ghost use Rattle.std.specs.Prelude.{◌≡◌, IsSome, IsSomeAnd, List, Some, codes};
 ghost use Rattle.clap.specs.Words.{Row, found_of, rows_of, subcommand_rows_of};
 ghost use Rattle.fmp_searching.specs.Explored.{IsForm};
 ghost use Rattle.fmp_view.specs.Asked.{AsksToDiff, AsksToExpect, AsksToExplore, AsksToTest, AsksToWhy};
@@ -7,10 +7,9 @@ ghost use Rattle.fmp_view.specs.Asked.{IsExpecting, IsPair, IsPairBound, IsRun, 
 ghost use Rattle.fmp_view.specs.Runs.{came_of, system_of};
 
 use crate::exporting::Exporting;
-use crate::form::program;
 use crate::importing::Importing;
 use crate::targeting::Targeting;
-use clap::{ArgMatches, Error};
+use clap::ArgMatches;
 use fmp_arguments::{bound_of, entered, flag_of, text_of, word_of, word32_of, word64_of, words_of};
 use fmp_looking::{
     CoverageFiles, Drawing, Driving, Format, Running, Testing, TraceFormat, files_of, testing_of,
@@ -19,7 +18,6 @@ use fmp_searching::{Exploring, exploring_of};
 use fmp_timeline::Choice;
 use fmp_toppers::Target;
 use fmp_warnings::{FileNames, Form};
-use std::alloc::Global;
 
 /// What a run is of: the names of its files.
 #[derive(Clone, Copy)]
@@ -421,12 +419,6 @@ fn asked_by<'m>(name: &str, words: &'m ArgMatches<'_>) -> Cmd<'m>
     }
 }
 
-/// The words of a command line, of which the first is the program's name, by the arguments of its commands. An error is
-/// that of the words' form, or `OutOfMemory`.
-pub fn parsed<'a>(alloc: Global, words: &'a [String]) -> Result<ArgMatches<'a>, Error> {
-    program(alloc)?.try_get_matches_from(words)
-}
-
 /// What the words of a command line ask for; nothing, if they name no command.
 pub fn command<'m>(words: &'m ArgMatches<'_>) -> Option<Cmd<'m>>
     ensures explore { (rows : List Row) → subcommand_rows_of words.now ≡ Some (codes "explore", rows) →
@@ -439,6 +431,7 @@ pub fn command<'m>(words: &'m ArgMatches<'_>) -> Option<Cmd<'m>>
         IsSomeAnd result (AsksToExpect rows) }
     ensures tests { (rows : List Row) → subcommand_rows_of words.now ≡ Some (codes "test", rows) →
         IsSomeAnd result (AsksToTest rows) }
+    ensures entered { IsSome result → IsSome (subcommand_rows_of words.now) }
 {
     match entered(words) {
         Some((name, words)) => Some(asked_by(name, words)),

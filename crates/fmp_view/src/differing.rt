@@ -59,7 +59,7 @@ fn difference_of<O: Outside>(
 }
 
 /// Prints a difference, if there is one, with status 4.
-#[tactic(auto, using(crate::proofs::Endings::not_done, crate::proofs::Endings::does_no_more))]
+#[tactic(auto, using(fmp_looking::proofs::TestEnds::not_done, fmp_files::specs::PrintsLaws::does_nothing))]
 fn print_difference<O: Outside>(
     alloc: Global,
     outside: &mut O,
@@ -80,7 +80,7 @@ fn print_difference<O: Outside>(
 }
 
 /// Prints the first event in which two runs of a system differ, with status 4 if they differ.
-#[tactic(auto, using(crate::proofs::Endings::not_done))]
+#[tactic(auto, using(fmp_looking::proofs::TestEnds::not_done))]
 pub fn print_diff<O: Outside>(alloc: Global, outside: &mut O, runs: RunPair<'_>) -> u8
     ensures { IsDone result → EndsDiff (O.files outside.old) runs.entry (O.done outside.old) (O.done outside.new)
         result }

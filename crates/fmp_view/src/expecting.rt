@@ -291,7 +291,7 @@ fn show_judged<O: Outside>(
 }
 
 /// Whether the file of a report is one of those that are read.
-fn is_over_input<O: Outside>(outside: &O, run: RunFiles<'_>, expecting: Expecting<'_>) -> bool
+fn overwrites_input<O: Outside>(outside: &O, run: RunFiles<'_>, expecting: Expecting<'_>) -> bool
     ensures { result ≡ false → IfSome expecting.entry.junit (λ out. IsReportApart run.entry expecting.entry out.now) }
 {
     match expecting.junit {
@@ -305,7 +305,7 @@ fn is_over_input<O: Outside>(outside: &O, run: RunFiles<'_>, expecting: Expectin
 }
 
 /// Says that a report would be written over a file that is read, and gives the status that the program ends with.
-#[tactic(auto, using(crate::proofs::Endings::mistake_refuses))]
+#[tactic(auto, using(fmp_looking::proofs::TestEnds::mistake_refuses))]
 fn refuse_report<O: Outside>(alloc: Global, outside: &mut O) -> u8
     ensures { IsRefusal result }
 {
@@ -314,7 +314,7 @@ fn refuse_report<O: Outside>(alloc: Global, outside: &mut O) -> u8
 
 /// Prints which expectation a run fails, or how it does by each, with status 4 if it fails one. A report is written
 /// before.
-#[tactic(auto, using(crate::proofs::Endings::not_done))]
+#[tactic(auto, using(fmp_looking::proofs::TestEnds::not_done))]
 pub fn run_expect<O: Outside>(
     alloc: Global,
     outside: &mut O,
@@ -324,7 +324,7 @@ pub fn run_expect<O: Outside>(
     ensures { IsDone result → EndsExpect (O.files outside.old) run.entry expecting.entry (O.done outside.old)
         (O.done outside.new) result }
 {
-    if is_over_input(outside, run, expecting) {
+    if overwrites_input(outside, run, expecting) {
         return refuse_report(alloc, outside);
     }
     match failure_of(alloc, outside, run, expecting) {

@@ -74,7 +74,7 @@ fn is_input_at<O: Outside>(
 }
 
 /// Whether one of these files of a folder is one of the two that are read.
-pub fn is_over_input<O: Outside>(
+pub fn overwrites_input<O: Outside>(
     alloc: Global,
     outside: &O,
     names: FileNames<'_>,
@@ -280,7 +280,7 @@ pub fn run_export<O: Outside, R: Files>(
     ensures { result ≡ 0 → HasExported (O.files outside.old) exporting.entry
         (O.done outside.old) (O.done outside.new) }
 {
-    match is_over_input(alloc, outside, exporting.names, exporting.folder, FILES) {
+    match overwrites_input(alloc, outside, exporting.names, exporting.folder, FILES) {
         Ok(false) => export_files(alloc, outside, rt, exporting),
         Ok(true) => refuse_mistake(outside, files_over_input(alloc)),
         Err(error) => end(outside, &Failure::Memory(error)),

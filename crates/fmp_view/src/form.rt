@@ -1,9 +1,14 @@
 //! The form of the command line.
+ghost use Rattle.std.specs.Prelude.{◌≡◌, IfOk, fold, map};
+ghost use Rattle.clap.specs.Words.{app_of};
+ghost use Rattle.fmp_arguments.specs.Forms.{app_of_form};
+ghost use Rattle.fmp_view.specs.Form.{Choices, IsForm, bare, commands, with_command};
+
 use crate::import_form::import_command;
 use clap::Command;
 use fmp_arguments::{
     Argument, ArgumentKind, BOUNDED, CFG, CommandForm, EVENTS_MAX, JSON, JUNIT, Made, NO_SETTINGS,
-    OptionValue, SRC, command_of,
+    OptionValue, SRC, command_of, plain_command_of,
 };
 use fmp_looking::TEST;
 use fmp_searching::EXPLORE;
@@ -450,7 +455,9 @@ pub fn export_command<'a>(alloc: Global) -> Made<'a> {
 }
 
 /// The command line with none of its commands yet.
-fn bare<'a>(alloc: Global) -> Command<'a> {
+fn bare<'a>(alloc: Global) -> Command<'a>
+    ensures { app_of result ≡ bare }
+{
     Command::new(alloc, "fmp_view")
         .version("0.1.0")
         .about(ABOUT)
@@ -460,14 +467,37 @@ fn bare<'a>(alloc: Global) -> Command<'a> {
 }
 
 /// The commands, but for `import`.
-pub fn forms() -> [&'static CommandForm; 15] {
+pub fn forms() -> [&'static CommandForm; 15]
+    ensures { (ticks formats : Choices) × (map (λ form. app_of_form form.now) result ≡ commands ticks formats) }
+{
     [
         &CODE, &FAULT, &RUN, &STEP, &LSP, &DRIVE, &WHY, &EXPLORE, &DIFF, &EXPECTED, &TEST, &STATS,
         &WAVES, &TIMELINE, &EXPORT,
     ]
 }
 
-/// The whole command line.
+/// The command line with these commands, which take a number below 0 for an option.
+fn with_plain<'a>(program: Command<'a>, alloc: Global, forms: &[&'static CommandForm]) -> Made<'a>
+    ensures { IfOk result (λ grown. app_of grown ≡
+        fold with_command (app_of program.entry) (map (λ form. app_of_form form.now) forms.now)) }
+{
+    let mut program = program;
+    for form in forms {
+        program = program.subcommand(plain_command_of(alloc, form)?)?;
+    }
+    Ok(program)
+}
+
+/// The whole command line, which takes a number below 0 for an option. `AllocError` if memory runs out.
+pub fn plain_program<'a>(alloc: Global) -> Made<'a>
+    ensures { IfOk result (λ program. IsForm (app_of program)) }
+{
+    let program = with_plain(bare(alloc), alloc, &forms())?;
+    program.subcommand(import_command(alloc)?)
+}
+
+/// The whole command line, which takes a number below 0 for a number where one may stand. `AllocError` if memory runs
+/// out.
 pub fn program<'a>(alloc: Global) -> Made<'a> {
     let mut program = bare(alloc);
     for form in forms() {

@@ -1,6 +1,11 @@
 //! The form of the command `import`, of which an option has a short name.
+ghost use Rattle.std.specs.Prelude.{◌≡◌, IfOk, IsFalse, codes};
+ghost use Rattle.clap.specs.Words.{app_of, rule_of};
+ghost use Rattle.fmp_arguments.specs.Forms.{text};
+ghost use Rattle.fmp_view.specs.Form.{define, import};
+
 use clap::{Arg, ArgAction};
-use fmp_arguments::{Argument, ArgumentKind, CommandForm, Made, command_of};
+use fmp_arguments::{Argument, ArgumentKind, CommandForm, Made, plain_command_of};
 use std::alloc::Global;
 
 /// The help on `--define`.
@@ -21,17 +26,35 @@ static IMPORT: CommandForm = CommandForm {
     example: "Example: fmp_view import sample1.cfg --define LOGTASK_PRIORITY=3 --out sample1.fmp.cfg",
 };
 
-/// The command `import`. `AllocError` if memory runs out.
-pub fn import_command<'a>(alloc: Global) -> Made<'a> {
-    let define = Arg::new(alloc, "define")
+/// The option for constants.
+fn define<'a>(alloc: Global) -> Arg<'a>
+    ensures rule { rule_of result ≡ define }
+    ensures local { IsFalse result.global }
+{
+    Arg::new(alloc, "define")
         .short('D')
         .long("define")
         .value_name("NAME=VALUE")
         .help(DEFINE)
-        .action(ArgAction::Append);
-    let out = Arg::new(alloc, "out")
+        .action(ArgAction::Append)
+}
+
+/// The option for the file that is written.
+fn out<'a>(alloc: Global) -> Arg<'a>
+    ensures rule { rule_of result ≡ text (codes "out") }
+    ensures local { IsFalse result.global }
+{
+    Arg::new(alloc, "out")
         .long("out")
         .value_name("OUT")
-        .help(IMPORTED);
-    command_of(alloc, &IMPORT)?.arg(define)?.arg(out)
+        .help(IMPORTED)
+}
+
+/// The command `import`, which has no numbers. `AllocError` if memory runs out.
+pub fn import_command<'a>(alloc: Global) -> Made<'a>
+    ensures { IfOk result (λ command. app_of command ≡ import) }
+{
+    plain_command_of(alloc, &IMPORT)?
+        .arg(define(alloc))?
+        .arg(out(alloc))
 }

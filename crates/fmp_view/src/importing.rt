@@ -91,7 +91,7 @@ fn imported<O: Outside>(
 }
 
 /// Writes a configuration, or prints it, and gives the status.
-#[tactic(auto, using(crate::proofs::Endings::printed_all))]
+#[tactic(auto, using(fmp_looking::proofs::TestEnds::printed_all))]
 fn give<O: Outside>(alloc: Global, outside: &mut O, out: Option<&str>, text: &[u8]) -> u8
     ensures { result ≡ 0 → Gives out.entry text.now (O.done outside.old) (O.done outside.new) }
 {

@@ -19,6 +19,8 @@ mod importing;
 mod inputs;
 mod mistakes;
 mod numbers;
+mod obeying;
+mod parsing;
 mod refusing;
 mod running;
 mod runs;
@@ -31,8 +33,8 @@ mod targeting;
 mod telling;
 mod testing;
 mod texts;
+mod unused_options;
 mod view_host;
-mod void_options;
 mod word_mistakes;
 
 use fmp_files::{refuse_words, words_of};

@@ -1,4 +1,10 @@
 //! What is said of words that do not have the form of the command line.
+ghost use Rattle.std.specs.Prelude.{ℕ, List};
+ghost use Rattle.clap.specs.Words.{kind_of};
+ghost use Rattle.fmp_files.specs.Endings.{IsShown};
+ghost use Rattle.fmp_files.specs.Prints.{Prints};
+ghost use Rattle.fmp_looking.specs.TestDeeds.{IsDone};
+
 use crate::form::forms;
 use crate::numbers::number_text;
 use clap::Error;
@@ -127,7 +133,10 @@ pub fn refuse_form<O: Outside>(
     outside: &mut O,
     words: &[String],
     error: &Error,
-) -> u8 {
+) -> u8
+    ensures { IsDone result → IsShown (kind_of error.now)
+        × ((text : List ℕ) × Prints (O.done outside.old) text (O.done outside.new)) }
+{
     match text_of(alloc, words, error) {
         Ok(Some(text)) => {
             outside.say(text);

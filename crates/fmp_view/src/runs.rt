@@ -76,7 +76,7 @@ pub fn made_of_run<O: Outside, L: RunLook>(
 }
 
 /// Writes all that there is to write to a file, and gives the status.
-#[tactic(auto, using(crate::proofs::Endings::three_refuses))]
+#[tactic(auto, using(fmp_looking::proofs::TestEnds::three_refuses))]
 pub fn write<O: Outside>(alloc: Global, outside: &mut O, out: &str, bytes: &[u8]) -> u8
     ensures written { result ≡ 0 → Does (O.done outside.old) (wrote out.now bytes.now ∷ []) (O.done outside.new) }
     ensures status { (result ≡ 0) ⊎ IsRefusal result }

@@ -1,7 +1,10 @@
 //! The words that a file of settings beside a system adds to a command line.
-ghost use Rattle.std.specs.Prelude.{◌≡◌, IfNone, IfSome, IsTrue};
+ghost use Rattle.std.specs.Prelude.{◌≡◌, IfNone, IfOk, IfSome, IsTrue};
 ghost use Rattle.clap.specs.Words.{first_of, found_of, rows_of, subcommand_rows_of};
-ghost use Rattle.fmp_view.specs.Settings.{KeepsSettings, status_of};
+ghost use Rattle.fmp_arguments.specs.Settings.{texts_of};
+ghost use Rattle.fmp_searching.specs.Claimed.{IsFile};
+ghost use Rattle.fmp_view.specs.Ends.{IsOfSettings};
+ghost use Rattle.fmp_view.specs.Settings.{Adds, KeepsSettings, status_of};
 
 use crate::form::forms;
 use clap::ArgMatches;
@@ -155,6 +158,23 @@ fn folder_of(file: &str) -> &str {
     }
 }
 
+/// The text of a file of settings.
+#[tactic(auto, using(crate::proofs::SettingsLemmas::whole_text))]
+fn settings_text<O: Outside>(
+    alloc: Global,
+    outside: &O,
+    file: &str,
+) -> Result<Vec<u8>, SettingsExit>
+    ensures { IfOk result (λ text. IsFile (O.files outside.now) file.now text.items) }
+{
+    let text = read_file(alloc, outside, file, Some(SETTINGS_MAX))?;
+    if text.len() > SETTINGS_MAX {
+        let message = format!(in alloc; "{file}: settings have at most {SETTINGS_MAX} bytes")?;
+        return Err(SettingsExit::Refused(message));
+    }
+    Ok(text)
+}
+
 /// The words that the settings of a file add for the options of these names.
 fn words_in<O: Outside>(
     alloc: Global,
@@ -162,12 +182,10 @@ fn words_in<O: Outside>(
     folder: &str,
     file: &str,
     names: &[&str],
-) -> Result<Vec<String>, SettingsExit> {
-    let text = read_file(alloc, outside, file, Some(SETTINGS_MAX))?;
-    if text.len() > SETTINGS_MAX {
-        let message = format!(in alloc; "{file}: settings have at most {SETTINGS_MAX} bytes")?;
-        return Err(SettingsExit::Refused(message));
-    }
+) -> Result<Vec<String>, SettingsExit>
+    ensures { IfOk result (λ words. Adds (O.files outside.now) file.now (texts_of words)) }
+{
+    let text = settings_text(alloc, outside, file)?;
     match added_words(alloc, folder, KEYS, &text, names)? {
         Ok(words) => Ok(words),
         Err(refusal) => Err(SettingsExit::Refused(refusal_text(alloc, file, KEYS, &refusal)?)),
@@ -182,7 +200,9 @@ fn added_beside<O: Outside, R: Files>(
     system: &str,
     names: &[&str],
     is_said: bool,
-) -> Result<Option<Added>, SettingsExit> {
+) -> Result<Option<Added>, SettingsExit>
+    ensures { IfOk result (λ added. IfSome added (IsOfSettings (O.files outside.now))) }
+{
     let folder = folder_of(system);
     let file = format!(in alloc; "{folder}{SETTINGS}")?;
     if fs::metadata(rt, file.as_str()).is_err() {
@@ -205,7 +225,9 @@ fn added_for<O: Outside, R: Files>(
     rt: &R,
     taker: &Taker,
     words: &ArgMatches<'_>,
-) -> Result<Option<Added>, SettingsExit> {
+) -> Result<Option<Added>, SettingsExit>
+    ensures { IfOk result (λ added. IfSome added (IsOfSettings (O.files outside.now))) }
+{
     if flag_of(words, "no-settings") {
         return Ok(None);
     }
@@ -269,7 +291,9 @@ pub fn added_to<O: Outside, R: Files>(
     outside: &O,
     rt: &R,
     words: &ArgMatches<'_>,
-) -> Result<Option<Added>, SettingsExit> {
+) -> Result<Option<Added>, SettingsExit>
+    ensures { IfOk result (λ added. IfSome added (IsOfSettings (O.files outside.now))) }
+{
     match entered(words) {
         Some((name, words)) => match taker_of(name) {
             Some(taker) => added_for(alloc, outside, rt, taker, words),

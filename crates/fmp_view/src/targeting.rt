@@ -3,7 +3,7 @@ ghost use Rattle.std.specs.Prelude.{◌≡◌, ◌∷◌, [], IfOk, OnOk};
 ghost use Rattle.fmp_files.specs.Deeds.{Does};
 ghost use Rattle.fmp_view.specs.Targets.{HasTargeted, HasTargetedFiles, HasTargetedTexts, IsTargetOf, target_files};
 
-use crate::exporting::{is_over_input, make_folder, write_in};
+use crate::exporting::{make_folder, overwrites_input, write_in};
 use crate::word_mistakes::files_over_input;
 use fmp_base::Name;
 use fmp_diagnosis::Texts;
@@ -212,7 +212,7 @@ pub fn run_target<O: Outside, R: Files>(
     ensures { result ≡ 0 → HasTargeted (O.files outside.old) targeting.entry
         (O.done outside.old) (O.done outside.new) }
 {
-    match is_over_input(alloc, outside, targeting.names, targeting.folder, FILES) {
+    match overwrites_input(alloc, outside, targeting.names, targeting.folder, FILES) {
         Ok(false) => target_files_of(alloc, outside, rt, targeting),
         Ok(true) => refuse_mistake(outside, files_over_input(alloc)),
         Err(error) => end(outside, &Failure::Memory(error)),

@@ -69,7 +69,7 @@ pub fn print_run<O: Outside>(
 }
 
 /// Prints bytes. The error is the status that the program ends with.
-#[tactic(auto, using(crate::proofs::Endings::printed_all, crate::proofs::Endings::printing_refuses))]
+#[tactic(auto, using(fmp_looking::proofs::TestEnds::printed_all, fmp_looking::proofs::TestEnds::printing_refuses))]
 pub fn printed<O: Outside>(alloc: Global, outside: &mut O, bytes: &[u8]) -> Result<(), u8>
     ensures ok { OnOk result (Prints (O.done outside.old) bytes.now (O.done outside.new)) }
     ensures err { IfErr result IsRefusal }
@@ -81,7 +81,7 @@ pub fn printed<O: Outside>(alloc: Global, outside: &mut O, bytes: &[u8]) -> Resu
 }
 
 /// Says why nothing is made, and gives the status that the program ends with.
-#[tactic(auto, using(crate::proofs::Endings::exit_refuses, crate::proofs::Endings::refusal_by))]
+#[tactic(auto, using(fmp_looking::proofs::TestEnds::exit_refuses, fmp_looking::proofs::TestEnds::refusal_by))]
 pub fn end_look<O: Outside>(outside: &mut O, exit: &ViewExit) -> u8
     ensures { IsRefusal result }
 {
@@ -89,7 +89,7 @@ pub fn end_look<O: Outside>(outside: &mut O, exit: &ViewExit) -> u8
 }
 
 /// Prints a text that was made, or says why there is none.
-#[tactic(auto, using(crate::proofs::Endings::not_done))]
+#[tactic(auto, using(fmp_looking::proofs::TestEnds::not_done))]
 pub fn print_made<O: Outside>(alloc: Global, outside: &mut O, made: Result<Vec<u8>, ViewExit>) -> u8
     ensures printed { IfOk made (λ text. IsDone result → Prints (O.done outside.old) text.items (O.done outside.new)) }
     ensures status { (result ≡ 0) ⊎ IsRefusal result }

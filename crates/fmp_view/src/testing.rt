@@ -16,7 +16,7 @@ use std::alloc::{AllocError, Global};
 use std::thread::Threads;
 
 /// Prints the first fault of two texts, which build no image, and gives the status.
-#[tactic(auto, using(crate::proofs::Endings::three_refuses, crate::proofs::Endings::fault_refuses))]
+#[tactic(auto, using(fmp_looking::proofs::TestEnds::three_refuses, crate::proofs::Endings::fault_refuses))]
 fn refuse_texts<O: Outside>(
     alloc: Global,
     outside: &mut O,
@@ -38,7 +38,7 @@ fn refuse_texts<O: Outside>(
 
 /// Makes random runs of the system of two texts, of which the configuration describes this, or prints their first
 /// fault, with status 1.
-#[tactic(auto, using(crate::proofs::Endings::not_done))]
+#[tactic(auto, using(fmp_looking::proofs::TestEnds::not_done))]
 fn test_system<O: Outside, R: Threads + Sync>(
     alloc: Global,
     outside: &mut O,
@@ -66,7 +66,7 @@ fn test_system<O: Outside, R: Threads + Sync>(
 }
 
 /// Makes random runs of the system of two texts, or prints their first fault, with status 1.
-#[tactic(auto, using(crate::proofs::Endings::not_done))]
+#[tactic(auto, using(fmp_looking::proofs::TestEnds::not_done))]
 fn test_texts<O: Outside, R: Threads + Sync>(
     alloc: Global,
     outside: &mut O,
@@ -90,7 +90,7 @@ fn test_texts<O: Outside, R: Threads + Sync>(
 /// Makes random runs of the system of the texts of two files: it prints the steps of the first that fails an
 /// expectation, made shorter, with status 4. If none fails, it prints nothing, with status 0. Its threads are those of
 /// this runtime.
-#[tactic(auto, using(crate::proofs::Endings::not_done, crate::proofs::Endings::three_refuses))]
+#[tactic(auto, using(fmp_looking::proofs::TestEnds::not_done, fmp_looking::proofs::TestEnds::three_refuses))]
 pub fn run_test<O: Outside, R: Threads + Sync>(
     alloc: Global,
     outside: &mut O,

@@ -3,7 +3,7 @@ use crate::form::{
     expect_command, export_command, forms, program, run_command, timeline_command, waves_command,
 };
 use crate::import_form::import_command;
-use crate::void_options::VoidOption;
+use crate::unused_options::UnusedOption;
 use clap::Error;
 use fmp_arguments::command_of;
 use fmp_files::{mistake, mistake_of};
@@ -63,10 +63,10 @@ pub fn output_over_settings(
 }
 
 /// The error for an option that says nothing beside another word, which has the status 2.
-pub fn option_without_use(alloc: Global, void: VoidOption) -> Result<Error, AllocError> {
-    let (option, shown) = (void.option, void.shown());
+pub fn option_without_use(alloc: Global, unused: UnusedOption) -> Result<Error, AllocError> {
+    let (option, shown) = (unused.option, unused.shown());
     let why = format!(in alloc; "the argument '--{option}' cannot be used with '{shown}'")?;
-    mistake_in(alloc, void.command, why.as_str())
+    mistake_in(alloc, unused.command, why.as_str())
 }
 
 /// The error for a word that is no code, which has the status 2.

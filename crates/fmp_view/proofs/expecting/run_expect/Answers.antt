@@ -4,7 +4,7 @@ use Rattle.fmp_view.proofs.expecting.run_expect.Goals as goal
 pub returns-in-Ok : goal.returns-in-Ok
 returns-in-Ok g c = λ done.
     record {
-      apart = c.is_over_input.ensures c.if-is_over_input.false;
+      apart = c.overwrites_input.ensures c.if-overwrites_input.false;
       fails = is_some c.in-Ok.failure;
       is = c.in-Ok.ensures;
       shows = c.show_judged.ensures done;

@@ -1,0 +1,6 @@
+use Rattle.std.proofs.Common.{inl}
+use Rattle.fmp_view.proofs.RunEnds.{shows}
+use Rattle.fmp_view.proofs.running.run_joined.Goals as goal
+
+pub returns-in-Err : goal.returns-in-Err
+returns-in-Err g c = λ done. inl (shows _ _ _ _ c.in-Err.ensures.refused (c.refuse_form.ensures done))

@@ -1,5 +1,0 @@
-use Rattle.std.proofs.Common.{sym}
-use Rattle.fmp_view.proofs.void_options.void_option.Goals as goal
-
-pub returns-in-Some : goal.returns-in-Some
-returns-in-Some c = rw (sym c.in-Some.ensures) c.first_void.ensures.void
