@@ -1,6 +1,6 @@
 //! The command `test` of a system: random runs, and the steps of the first that fails an expectation.
 ghost use Rattle.std.specs.Prelude.{ℕ, ◌≡◌, ◌∷◌, ◌<◌, [], IfErr, IfNone, IfOk, IfSome, IsOkAnd, IsTrue, List, None};
-ghost use Rattle.std.specs.Prelude.{OnOk, Option, false, option_map, true};
+ghost use Rattle.std.specs.Prelude.{◌++◌, OnOk, Option, codes, decimal, false, option_map, true};
 ghost use Rattle.std.specs.Str.Lossy.{utf8_lossy};
 ghost use Rattle.fmp_base.specs.Systems.{tables_of};
 ghost use Rattle.fmp_files.specs.Deeds.{Deed, Does, said, wrote};
@@ -96,16 +96,22 @@ fn shorter_still(shortest: bool) -> &'static str
     }
 }
 
+/// Says that the run of this seed fails, how many events it had, and how many are left.
+fn say_shortened<O: Outside>(outside: &mut O, seed: u64, drawn: usize, left: usize, end: &str)
+    ensures { Does (O.done outside.old) (said (codes "seed " ++ (decimal seed ++ (codes ": " ++ (decimal drawn
+        ++ (codes " events, made shorter to " ++ (decimal left ++ (end.now ++ codes "\n"))))))) ∷ [])
+        (O.done outside.new) }
+{
+    outside.say(format_args!("seed {seed}: {drawn} events, made shorter to {left}{end}\n"));
+}
+
 /// Says which run fails, and how much shorter it became.
 fn say_seed<O: Outside>(outside: &mut O, trial: &FailedTrial)
     ensures { Does (O.done outside.old) (said (seed_line trial.now) ∷ []) (O.done outside.new) }
 {
     let left = trial.run.steps.len();
     let end = shorter_still(trial.shortest);
-    outside.say(format_args!(
-        "seed {}: {} events, made shorter to {left}{end}\n",
-        trial.seed, trial.drawn
-    ));
+    say_shortened(outside, trial.seed, trial.drawn, left, end);
 }
 
 /// Says which run fails, and what `expect` says of it.
