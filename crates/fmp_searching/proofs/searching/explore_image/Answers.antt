@@ -1,4 +1,4 @@
-use Rattle.std.proofs.Common.{Ok, inl, inr, subst, sym}
+use Rattle.std.proofs.Common.{Ok, inr, subst, sym}
 use Rattle.std.proofs.lemmas.Result.{IfOk-weaker}
 use Rattle.fmp_searching.specs.declared.asking.ExploreWords.{ExploreWords}
 use Rattle.fmp_searching.specs.Questions.{IsWanted}
@@ -61,18 +61,14 @@ returns-in-Ok-clause-shown g c =
       holds = shown;
     })) c.explore_question.ensures.shown
 
-pub returns-in-Err-clause-shown : goal.returns-in-Err-clause-shown
-returns-in-Err-clause-shown g c =
-    IfOk-weaker c.refuse_question.result _ _ (λ status quiet. inl quiet) c.refuse_question.ensures.quiet
-
-pub returns-in-Err-clause-quiet : goal.returns-in-Err-clause-quiet
-returns-in-Err-clause-quiet g c =
+pub returns-clause-quiet : goal.returns-clause-quiet
+returns-clause-quiet g c =
     let done = g.O.Outside.done in
     on_err c.refuse_question.result
     (says_quiet (done c.args.outside.now) (done c.refuse_question.new.outside) c.refuse_question.ensures.says)
 
-pub returns-in-Err-clause-keeps : goal.returns-in-Err-clause-keeps
-returns-in-Err-clause-keeps g c = λ apart.
+pub returns-clause-keeps : goal.returns-clause-keeps
+returns-clause-keeps g c = λ apart.
     let done = g.O.Outside.done in
     says_may c.args.opened.now.exploring.now _ (done c.args.outside.now) (done c.refuse_question.new.outside)
     c.refuse_question.ensures.says

@@ -1,7 +1,7 @@
 use Rattle.std.proofs.Common.{◌≡◌, ◌∙◌, ℕ, ap, false, map, subst}
 use Rattle.fmp_searching.specs.Claimed.{text_of}
 use Rattle.fmp_searching.specs.Files.{is_refusal}
-use Rattle.fmp_searching.proofs.Doing.{only_then, removes_may, removes_quiet, says_may, says_quiet}
+use Rattle.fmp_searching.proofs.Doing.{on_err, only_then, removes_may, removes_quiet, says_may, says_quiet}
 use Rattle.fmp_searching.proofs.Endings.{told_after, two_after}
 use Rattle.fmp_searching.proofs.Printing.{no_image, quiet_then}
 use Rattle.fmp_searching.proofs.searching.explore_sources.Goals as goal
@@ -38,7 +38,8 @@ returns-clause-keeps g c = λ apart.
 pub returns-in_err-explored-clause-quiet : goal.returns-in_err-explored-clause-quiet
 returns-in_err-explored-clause-quiet g c =
     let done = g.O.Outside.done in
-    says_quiet (done c.args.outside.now) (done c.explored_aloud.new.outside) c.explored_aloud.ensures.says
+    on_err c.from_residual.result
+    (says_quiet (done c.args.outside.now) (done c.explored_aloud.new.outside) c.explored_aloud.ensures.says)
 
 pub returns-in_err-explored-clause-keeps : goal.returns-in_err-explored-clause-keeps
 returns-in_err-explored-clause-keeps g c = λ apart.
@@ -49,10 +50,11 @@ returns-in_err-explored-clause-keeps g c = λ apart.
 pub returns-in_err-remove_after-clause-quiet : goal.returns-in_err-remove_after-clause-quiet
 returns-in_err-remove_after-clause-quiet g c =
     let done = g.O.Outside.done in
-    quiet_then _ _ _
+    on_err c.from_residual-in_err-remove_after.result
+    (quiet_then _ _ _
     (says_quiet (done c.args.outside.now) (done c.explored_aloud.new.outside) c.explored_aloud.ensures.says)
     (removes_quiet c.args.exploring.now _ _ (done c.explored_aloud.new.outside) (done c.remove_after.new.outside)
-    c.remove_after.ensures)
+    c.remove_after.ensures))
 
 pub returns-in_err-remove_after-clause-keeps : goal.returns-in_err-remove_after-clause-keeps
 returns-in_err-remove_after-clause-keeps g c = λ apart.
