@@ -1,9 +1,10 @@
 //! What each command reads of bytes and makes of them.
 ghost use Rattle.std.specs.Prelude.{◌≡◌, ◌+◌, ◌≤◌, ◌^◌, IfOk, length, option_map};
+ghost use Rattle.fmp_base.specs.Systems.{tables_of};
 ghost use Rattle.fmp_diagnosis.specs.Topics.{topic_asked as topic_asked_by};
 ghost use Rattle.fmp_frames.specs.Counting.{counts_of, first_counts};
+ghost use Rattle.fmp_frames.specs.DumpedRuns.{IsBegun};
 ghost use Rattle.fmp_frames.specs.Shown.{WasShown};
-ghost use Rattle.fmp_frames.specs.Values.{values_of};
 ghost use Rattle.fmp_trace.specs.Steps.{steps_text};
 ghost use Rattle.fmp_looking.specs.Drives as spec;
 ghost use Rattle.fmp_looking.specs.Drives.{IsDrivenText};
@@ -198,7 +199,7 @@ fn waved<B: Body, T: Coming<B>>(
     events: &[T],
 ) -> Result<Waves, AllocError>
     requires few { kernel.old.taken + length events.now ≤ 2 ^ 31 }
-    ensures { IfOk result (λ waves. WasShown (λ x f. x.values.items ≡ values_of f x.variables.items)
+    ensures { IfOk result (λ waves. WasShown (λ x f. IsBegun (tables_of sys.now) f x)
         ⟦<Waves as Viewer>⟧.shown B.meaning T.reaction kernel.old events.now waves) }
 {
     let setup = last_frame(alloc, kernel)?;

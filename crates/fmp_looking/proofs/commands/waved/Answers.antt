@@ -1,7 +1,8 @@
-use Rattle.std.proofs.Common.{◌∙◌, ap}
+use Rattle.std.proofs.Common.{subst}
 use Rattle.std.proofs.lemmas.Result.{err_from_is_err_and}
+use Rattle.fmp_base.specs.Systems.{tables_of}
+use Rattle.fmp_frames.specs.DumpedRuns.{IsBegun}
 use Rattle.fmp_frames.specs.Frames.{FrameTable}
-use Rattle.fmp_frames.specs.Values.{values_of}
 use Rattle.fmp_looking.proofs.commands.waved.Goals as goal
 
 pub show_all-requires : goal.show_all-requires
@@ -23,7 +24,7 @@ pub returns : goal.returns
 returns g c =
     record {
       first = c.in_ok-waves.waves;
-      begins = c.in_ok-waves.ensures ∙ ap (λ (f : FrameTable). values_of f c.in_ok-waves.waves.variables.items)
-          c.in_ok-setup.ensures;
+      begins = subst (λ (f : FrameTable). IsBegun (tables_of c.args.sys.now) f c.in_ok-waves.waves)
+          c.in_ok-setup.ensures c.in_ok-waves.ensures;
       frames = c.in_ok-show_all.ensures.shown;
     }
