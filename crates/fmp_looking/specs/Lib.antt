@@ -20,6 +20,7 @@ pub mod Meanings
 pub mod NamedSystems
 pub mod Observed
 pub mod OpenSystems
+pub mod Outputs
 pub mod PositionedRuns
 pub mod Rates
 pub mod Refused

@@ -10,6 +10,7 @@ ghost use Rattle.fmp_looking.specs.Drives as spec;
 ghost use Rattle.fmp_looking.specs.Drives.{IsDrivenText};
 ghost use Rattle.fmp_looking.specs.Looks.{OfImage};
 ghost use Rattle.fmp_looking.specs.Meanings.{IsMeaning};
+ghost use Rattle.fmp_looking.specs.Outputs.{IsOutput};
 
 use crate::calling::calls_on;
 use crate::driving::{Drive, driven};
@@ -218,8 +219,11 @@ fn dump_on<B: Body, T: Coming<B>>(
     events: &[T],
 ) -> Result<Vec<u8>, AllocError>
     requires few { kernel.old.taken + length events.now ≤ 2 ^ 31 }
+    ensures { IfOk result (λ out. IsOutput RunOutput.Dump (tables_of sys.now) B.meaning T.reaction kernel.old
+        events.now out.items) }
 {
-    waved(alloc, sys, kernel, events)?.finish()
+    let waves = waved(alloc, sys, kernel, events)?;
+    waves.finish()
 }
 
 /// What is made of a run.
@@ -234,7 +238,6 @@ pub enum RunOutput {
 }
 
 /// What is made of a run of a kernel of this system over what comes to it.
-#[tactic(none)]
 fn output_on<B: Body, T: Coming<B>>(
     alloc: Global,
     sys: &System,
@@ -243,6 +246,8 @@ fn output_on<B: Body, T: Coming<B>>(
     output: RunOutput,
 ) -> Result<Vec<u8>, AllocError>
     requires few { kernel.old.taken + length events.now ≤ 2 ^ 31 }
+    ensures { IfOk result (λ out. IsOutput output (tables_of sys.now) B.meaning T.reaction kernel.old events.now
+        out.items) }
 {
     match output {
         RunOutput::Table(form) => table_on(alloc, form, sys, kernel, events),
@@ -260,6 +265,8 @@ pub fn output_of<O: Opened, T: Coming<O::Bodies>>(
     output: RunOutput,
 ) -> Result<Vec<u8>, AllocError>
     requires { length events.now ≤ 2 ^ 31 }
+    ensures { IfOk result (λ out. IsOutput output (O.start opened.now).system O.Bodies.meaning T.reaction
+        (O.start opened.now) events.now out.items) }
 {
     let mut kernel = opened.kernel(alloc)?;
     let made = output_on(alloc, opened.system(), &mut kernel, events, output);
@@ -268,7 +275,12 @@ pub fn output_of<O: Opened, T: Coming<O::Bodies>>(
 }
 
 impl RunLook for RunOutput {
+    ghost use Rattle.fmp_looking.specs.Outputs.{IsOutput};
+
     type Made = Vec<u8>;
+
+    ghost makes = { λ output meaning reaction k xs times out.
+        IsOutput output k.system meaning reaction k xs out.items };
 
     fn of<O: Opened, T: Coming<O::Bodies>>(
         &self,
@@ -277,6 +289,9 @@ impl RunLook for RunOutput {
         events: &[T],
         _times: &[Option<u64>],
     ) -> Result<Vec<u8>, ViewExit> {
-        output_of(alloc, opened, events, *self).map_err(|error| memory(error))
+        match output_of(alloc, opened, events, *self) {
+            Ok(out) => Ok(out),
+            Err(error) => Err(memory(error)),
+        }
     }
 }
