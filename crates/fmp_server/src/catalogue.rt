@@ -78,7 +78,7 @@ static DEEDS: [&[&str]; 59] = [
     &["ends the caller"],
     &["ends another task of the caller's processor, without a line `end` for it"],
     &[
-        "gives a task the priority p, 1 to 16, or 0 (`TPRI_INI`) its initial one. A ready task, and one ",
+        "gives a task the priority p, 1 to 16, or 0 (`TPRI_INI`) its initial one. A ready or running task, and one ",
         "in a queue of priority order, goes to the end of its priority, even if p is the same",
     ],
     &["gives the priority of a task"],
