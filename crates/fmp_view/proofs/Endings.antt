@@ -9,9 +9,9 @@ use Rattle.fmp_looking.proofs.TestEnds.{not_done, printing_ends, refusal_by, thr
 use Rattle.fmp_looking.proofs.TestEnds.{two_refuses}
 
 -- a fault that is shown, where there is one
-pub fault_refuses : (shown status : ℕ) → (shown ≡ 0) ⊎ ((shown ≡ 1) ⊎ (shown ≡ 3)) → status ≡ max shown 1
+pub fault_refuses : (fault status : ℕ) → (fault ≡ 0) ⊎ ((fault ≡ 1) ⊎ (fault ≡ 3)) → status ≡ max fault 1
     → IsRefusal status
-fault_refuses shown status h is = elim h [
+fault_refuses fault status h is = elim h [
   | inl zeroth ↦ refusal_by status 1 (is ∙ ap (λ (n : ℕ). max n 1) zeroth) (omega arith, omega arith)
   | inr more ↦ elim more [
     | inl first ↦ refusal_by status 1 (is ∙ ap (λ (n : ℕ). max n 1) first) (omega arith, omega arith)
