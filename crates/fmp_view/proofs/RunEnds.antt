@@ -31,7 +31,7 @@ module _ (files : Files) (words : List Text) (before after : Option (List Deed))
   -- the command that parsed words enter was carried out
   pub obeys : (entered : Option (Text × List Row)) → IfSome entered (IsEntered words) → is_some entered ≡ true
       → ComesTo files entered before after status → Obeys files words before after status
-  obeys None is some comes = cc
+  obeys None is some comes = absurd (cc (some))
   obeys (Some e) is some comes = record { entered = e; is = is; comes = comes }
 
   -- with no settings
