@@ -1,5 +1,6 @@
 -- The tokens of bodies name the service calls of their trees, in order.
-use Rattle.std.proofs.Common.{◌≡◌, ℕ, ℤ, ◌+◌, Bool, true, false, List, [], ◌∷◌, ◌++◌, length, map, drop, slice_get, Option}
+use Rattle.std.proofs.Common.{◌≡◌, ℕ, ℤ, ◌+◌, Bool, true, false, List, [], ◌∷◌, ◌++◌, length, map, drop, slice_get}
+use Rattle.std.proofs.Common.{Option}
 use Rattle.std.proofs.Common.{Some, None, option_and_then, is_some, cond, refl, sym, ap, ap₂, subst, ◌∙◌, append_assoc}
 use Rattle.std.proofs.Common.{append-nil, arith}
 use Rattle.std.proofs.lemmas.Option.{get_or_from_slice_get, slice_get_within}
@@ -30,8 +31,10 @@ use Rattle.fmp_tasklang.specs.Expressions.{a_name, a_group, a_unary, IsIndex, no
 use Rattle.fmp_tasklang.specs.Expressions.{an_operand, a_chain, AreLinks, no_link, a_link}
 use Rattle.fmp_tasklang.specs.Grammar.{body_kind_of, number_of, OneLength, OneVariable, OneBody, Bodies}
 use Rattle.fmp_tasklang.specs.Statements.{jump_of, IsCondition, IsBracketed, IsResult, IsStatement, an_assignment}
-use Rattle.fmp_tasklang.specs.Statements.{an_element_assignment, a_call, a_jump, an_if, a_while, IsIf, if_chosen, IsElse}
-use Rattle.fmp_tasklang.specs.Statements.{no_else, an_else, IsOther, a_block, another_if, IsBlock, braces, AreStatements}
+use Rattle.fmp_tasklang.specs.Statements.{an_element_assignment, a_call, a_jump, an_if, a_while, IsIf, if_chosen}
+use Rattle.fmp_tasklang.specs.Statements.{IsElse}
+use Rattle.fmp_tasklang.specs.Statements.{no_else, an_else, IsOther, a_block, another_if, IsBlock, braces}
+use Rattle.fmp_tasklang.specs.Statements.{AreStatements}
 use Rattle.fmp_tasklang.specs.Statements.{no_statement, a_statement}
 use Rattle.fmp_tasklang.specs.Trees.{ExpressionTree, StatementTree, Block, BodyTree}
 use Rattle.fmp_tasklang.specs.Views.{LinkTree}
@@ -140,7 +143,8 @@ module _ (ts : List TokenKind) where
             ∙ ap (λ (o : Option BodyKind). cond (is_some o) [] (token_calls t ++ calls_to_next rest)) plain;
         text =
             ap text_calls (from_token i t at)
-            ∙ ap (λ (o : Option BodyKind). cond (is_some o) (calls_to_next rest ∷ text_calls rest) (text_calls rest)) plain;
+            ∙ ap (λ (o : Option BodyKind). cond (is_some o) (calls_to_next rest ∷ text_calls rest)
+            (text_calls rest)) plain;
       }
 
   plain_names : (t : TokenKind) (i j : ℕ) → IsToken ts t i j → IsPlain t → Names i [] j
@@ -338,7 +342,8 @@ module _ (ts : List TokenKind) where
       pub here : calls_to_next (drop i ts) ≡ []
       pub text : text_calls (drop i ts) ≡ calls_to_next (drop (i + 1) ts) ∷ text_calls (drop (i + 1) ts)
 
-    body_here : (i : ℕ) (t : TokenKind) (k : BodyKind) → slice_get ts i ≡ Some t → body_kind_of t ≡ Some k → BeginsBody i
+    body_here : (i : ℕ) (t : TokenKind) (k : BodyKind) → slice_get ts i ≡ Some t → body_kind_of t ≡ Some k
+        → BeginsBody i
     body_here i t k at is =
         let rest = drop (i + 1) ts in
         record {

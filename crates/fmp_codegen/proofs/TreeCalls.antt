@@ -1,5 +1,6 @@
 -- The code of a tree has the service calls of the tree, in order.
-use Rattle.std.proofs.Common.{◌≡◌, ℕ, ◌+◌, pos, List, [], ◌∷◌, ◌++◌, map, refl, sym, ap, ap₂, ◌∙◌, append_assoc, append-nil}
+use Rattle.std.proofs.Common.{◌≡◌, ℕ, ◌+◌, pos, List, [], ◌∷◌, ◌++◌, map, refl, sym, ap, ap₂, ◌∙◌, append_assoc}
+use Rattle.std.proofs.Common.{append-nil}
 use Rattle.fmp_base.specs.Systems.{SystemTables}
 use Rattle.fmp_tasklang.specs.declared.trees.Word.{Word}
 use Rattle.fmp_tasklang.specs.Layout.{Local}
@@ -10,7 +11,8 @@ use Rattle.fmp_tasklang.specs.Trees.{return, Block, empty, next, BodyTree}
 use Rattle.fmp_instructions.specs.declared.instructions.Instruction.{Instruction}
 use Rattle.fmp_instructions.specs.declared.instructions.Instruction.TheVariants.{Push, Store, Unary, Truth, Binary}
 use Rattle.fmp_instructions.specs.declared.instructions.Instruction.TheVariants.{Jump, JumpIfZero, End}
-use Rattle.fmp_scopes.specs.Scheme.{name_code, load_element, store_element, expression_code, arguments_code, target_place}
+use Rattle.fmp_scopes.specs.Scheme.{name_code, load_element, store_element, expression_code, arguments_code}
+use Rattle.fmp_scopes.specs.Scheme.{target_place}
 use Rattle.fmp_scopes.specs.Scheme.{call_instruction, statement_code, block_code, body_code}
 use Rattle.fmp_scopes.specs.Sizes.{expression_size, statement_size, block_size}
 use Rattle.fmp_codegen.specs.Calls.{instruction_calls, code_calls, body_calls, statement_calls, block_calls, tree_calls}
@@ -102,7 +104,8 @@ mutual
       let first = at + expression_size e + 1 in
       let after = first + block_size s + 1 in
       let front = block_code scope s first at after in
-      none_before (expression_code scope e at) (JumpIfZero after ∷ (front ++ Jump at ∷ [])) (expression_calls scope e at)
+      none_before (expression_code scope e at) (JumpIfZero after ∷ (front ++ Jump at ∷ []))
+      (expression_calls scope e at)
       ∙ code_calls-append front (Jump at ∷ [])
       ∙ append-nil (code_calls front)
       ∙ block_keeps scope s first at after

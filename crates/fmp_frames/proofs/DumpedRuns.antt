@@ -42,7 +42,8 @@ ends (f ∷ fs) n vs xs before u last few events variables values text h =
     ∙ ap (λ (zs : List ℕ). u.text.items ++ event_text (n + 1) vs zs ys) values
     ∙ ap (λ (zs : List ℕ). zs ++ here) text in
     ends fs (n + 1) vs ys (before ++ here) v last (omega (arith, few)) (d.events ∙ number)
-    (ap (λ w. w.items) d.variables ∙ variables) (d.values ∙ ap (λ (ws : List Variable). values_of f ws) variables) told h.2
+    (ap (λ w. w.items) d.variables ∙ variables)
+    (d.values ∙ ap (λ (ws : List Variable). values_of f ws) variables) told h.2
     ∙ append_assoc before here (events_text (n + 1) vs ys fs)
 
 pub dumps_are_of_their_frames : DumpsAreOfTheirFrames

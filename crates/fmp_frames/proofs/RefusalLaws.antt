@@ -170,7 +170,8 @@ module _ {B : Type 0} (meaning : B → Meaning MachineContext) where
       let r = reaction_of meaning k e in
       let at = event_site meaning k e in (
         λ made. false_unless (list_any is_done_call (lines_told r))
-            (λ told. unless (kept_in (view_after k r) es (heard_reaction h at r) s (known_reaction h at s r made told))),
+            (λ told. unless (kept_in (view_after k r) es (heard_reaction h at r) s
+            (known_reaction h at s r made told))),
         never (view_after k r) es (heard_reaction h at r) s unless,
       )
 
@@ -178,7 +179,8 @@ module _ {B : Type 0} (meaning : B → Meaning MachineContext) where
 not_always : (answers : List SiteAnswer) (s : CallSite) → refusal_of (codes_at answers s) ≡ refusal.Always
     → WasDone answers s → ⊥
 not_always answers s always done =
-    let rest = flat_map (λ (c : Er). code_at answers s c) (er.Par ∷ er.Id ∷ er.Ctx ∷ er.Iluse ∷ er.Obj ∷ er.Qovr ∷ er.Rlwai
+    let rest = flat_map (λ (c : Er). code_at answers s c)
+    (er.Par ∷ er.Id ∷ er.Ctx ∷ er.Iluse ∷ er.Obj ∷ er.Qovr ∷ er.Rlwai
     ∷ er.Tmout ∷ []) in
     let codes : codes_at answers s ≡ er.Ok ∷ rest = ap (λ (b : Bool). cond b (er.Ok ∷ []) [] ++ rest) done in
     let told : refusal.Sometimes ≡ refusal.Always =

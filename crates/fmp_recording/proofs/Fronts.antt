@@ -1,5 +1,6 @@
 -- Texts that begin with other texts.
-use Rattle.std.proofs.Common.{ℕ, ◌≡◌, ◌∙◌, List, [], ◌++◌, Bool, true, false, ap, append-nil, append_assoc, cond, length}
+use Rattle.std.proofs.Common.{ℕ, ◌≡◌, ◌∙◌, List, [], ◌++◌, Bool, true, false, ap, append-nil, append_assoc, cond}
+use Rattle.std.proofs.Common.{length}
 use Rattle.std.proofs.Common.{sym, take}
 use Rattle.std.proofs.Math.Seq.{take-append_seam}
 use Rattle.fmp_trace.specs.Fronts.{Begins}

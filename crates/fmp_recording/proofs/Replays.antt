@@ -30,7 +30,8 @@ use Rattle.fmp_recording.specs.declared.recorded.RecordedLine.{RecordedLine}
 use Rattle.fmp_recording.specs.declared.recorded.RecordedLine.TheVariants as recorded
 use Rattle.fmp_recording.specs.Recordings.{came_lines, recorded_lines_text, recorded_of, recording_text}
 use Rattle.fmp_recording.specs.Replaying.{HasBegunRun, HasDone, HasDoneAll, HasReplayed, HasTaken, IsCutOff}
-use Rattle.fmp_recording.specs.Replaying.{IsReplayFault, IsWhyNotAll, IsWhyNotDone, LeavesRun, LeavesTrace, IsWhyNotRun, IsWhyNotTaken, IsWhyStopped}
+use Rattle.fmp_recording.specs.Replaying.{IsReplayFault, IsWhyNotAll, IsWhyNotDone, LeavesRun, LeavesTrace}
+use Rattle.fmp_recording.specs.Replaying.{IsWhyNotRun, IsWhyNotTaken, IsWhyStopped}
 use Rattle.fmp_recording.specs.Replaying.{RecordedLinesAreReplayed, RecordedRunsAreReplayed, WholeRunsAreReplayed}
 use Rattle.fmp_recording.specs.Replaying.{added_by, first_refusal, kernel_after, new_kernel, or_else, recorded_trace}
 use Rattle.fmp_recording.specs.Replaying.{refusal_in, run_of, text_after, text_of}

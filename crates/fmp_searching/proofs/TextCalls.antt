@@ -1,5 +1,6 @@
 -- The calls of a text with their lines, and those of its code.
-use Rattle.std.proofs.Common.{◌≡◌, ◌∙◌, ◌++◌, ◌∷◌, ◌≤◌, ℕ, Bool, true, false, List, [], ap, ap₂, arith, inl, inr, length}
+use Rattle.std.proofs.Common.{◌≡◌, ◌∙◌, ◌++◌, ◌∷◌, ◌≤◌, ℕ, Bool, true, false, List, [], ap, ap₂, arith, inl, inr}
+use Rattle.std.proofs.Common.{length}
 use Rattle.std.proofs.Common.{map, refl}
 use Rattle.std.specs.Prelude.{if◌then◌else◌, is_some}
 use Rattle.fmp_base.specs.declared.services.Service.{Service}

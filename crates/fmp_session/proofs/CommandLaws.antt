@@ -1,5 +1,6 @@
 -- Lines that say the same.
-use Rattle.std.proofs.Common.{ℕ, ◌≡◌, ◌∙◌, ◌+◌, ◌<◌, ◌++◌, Bool, true, false, List, [], ◌∷◌, Option, Some, None, Ok, ap, ap₂}
+use Rattle.std.proofs.Common.{ℕ, ◌≡◌, ◌∙◌, ◌+◌, ◌<◌, ◌++◌, Bool, true, false, List, [], ◌∷◌, Option, Some, None, Ok}
+use Rattle.std.proofs.Common.{ap, ap₂}
 use Rattle.std.proofs.Common.{arith, codes, cond, drop, length, nat_eq, nat_lt, not, refl, suc, sym, true≢false}
 use Rattle.std.proofs.Math.Seq.{take-append_seam}
 use Rattle.std.proofs.lemmas.Bool.{lt-ltb}
@@ -7,7 +8,8 @@ use Rattle.std.proofs.lemmas.List.{length-append}
 use Rattle.std.proofs.lemmas.List.Sums.{prefix_len-le-length}
 use Rattle.std.specs.List.{prefix_len}
 use Rattle.fmp_base.specs.declared.events.Event.{Event}
-use Rattle.fmp_session.specs.Commands.{blank_of, by_word, command_of, event_of, number_of, once_or, rest_behind, rest_of}
+use Rattle.fmp_session.specs.Commands.{blank_of, by_word, command_of, event_of, number_of, once_or, rest_behind}
+use Rattle.fmp_session.specs.Commands.{rest_of}
 use Rattle.fmp_session.specs.Commands.{run_by, run_of, times_behind, word_before, word_of}
 use Rattle.fmp_session.specs.declared.command.Command.TheVariants as command
 use Rattle.fmp_session.specs.declared.interrupts.NamedInterrupt.{NamedInterrupt}

@@ -1,5 +1,6 @@
 -- Sessions that take events one after the other.
-use Rattle.std.proofs.Common.{ℕ, ◌≡◌, ◌∙◌, ◌+◌, ◌-◌, ◌<◌, ◌≤◌, ◌^◌, ◌++◌, zero, Bool, true, false, List, [], ◌∷◌, ap, ap₂, arith, cond, fold}
+use Rattle.std.proofs.Common.{ℕ, ◌≡◌, ◌∙◌, ◌+◌, ◌-◌, ◌<◌, ◌≤◌, ◌^◌, ◌++◌, zero, Bool, true, false, List, [], ◌∷◌, ap}
+use Rattle.std.proofs.Common.{ap₂, arith, cond, fold}
 use Rattle.std.proofs.Common.{length, length-append, ne_eqb, nat_eq, refl, replicate, slice_index_or, suc, sym, take}
 use Rattle.std.proofs.Math.Seq.{take-length, take-suc}
 use Rattle.std.proofs.lemmas.List.{replicate-append-replicate}
@@ -33,18 +34,22 @@ nothing_taken i n es after e does is = is ∙ go (nat_eq (length es) (2 ^ 20))
 
 -- an event that was taken, and what it came to
 pub event_taken : (s : Session) (e : Event) (after : List Event) (t : TakenEvent) → IsTakenAs s e t
-    → after ≡ with_event t e s.events.items → length after ≤ 2 ^ 20 → after ≡ taking s.image.now s.bound s.events.items e
+    → after ≡ with_event t e s.events.items → length after ≤ 2 ^ 20 → after
+    ≡ taking s.image.now s.bound s.events.items e
 event_taken s e after taken.Done does is few =
     let more = length-append s.events.items (e ∷ []) in
     let long = ap (λ (xs : List Event). length xs) is in
-    with_room s.image.now s.bound s.events.items after e taken.Done does (λ full. omega (arith, more, long, few, full)) is
+    with_room s.image.now s.bound s.events.items after e taken.Done does
+    (λ full. omega (arith, more, long, few, full)) is
 event_taken s e after taken.Kept does is few =
     let more = length-append s.events.items (e ∷ []) in
     let long = ap (λ (xs : List Event). length xs) is in
-    with_room s.image.now s.bound s.events.items after e taken.Kept does (λ full. omega (arith, more, long, few, full)) is
+    with_room s.image.now s.bound s.events.items after e taken.Kept does
+    (λ full. omega (arith, more, long, few, full)) is
 event_taken s e after taken.Nothing does is few = nothing_taken s.image.now s.bound s.events.items after e does is
 event_taken s e after taken.Full full is few =
-    is ∙ sym (ap (λ (b : Bool). cond b s.events.items (with_event (taken_by (reaction s.image.now s.bound s.events.items e)) e
+    is ∙ sym (ap (λ (b : Bool). cond b s.events.items
+    (with_event (taken_by (reaction s.image.now s.bound s.events.items e)) e
     s.events.items)) (eq-eqb _ _ full))
 
 -- no event yet

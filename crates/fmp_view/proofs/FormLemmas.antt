@@ -1,6 +1,7 @@
 -- The form of the command line is plain, so that what a parse enters is what the words name.
 use Rattle.std.proofs.Common.{ℕ, ◌≡◌, ◌∙◌, ◌+◌, ◌<◌, ◌&&◌, ◌++◌, [], ◌∷◌, Bool, true, false, List, Option, Some, None}
-use Rattle.std.proofs.Common.{◌≢◌, IfErr, IsErrAnd, IfOk, IfSome, Result, Ok, Err, codes, inl, ap, ap₂, arith, fold, inr, length, map, not, refl, slice_index_or, subst, suc}
+use Rattle.std.proofs.Common.{◌≢◌, IfErr, IsErrAnd, IfOk, IfSome, Result, Ok, Err, codes, inl, ap, ap₂, arith, fold}
+use Rattle.std.proofs.Common.{inr, length, map, not, refl, slice_index_or, subst, suc}
 use Rattle.std.proofs.Common.{sym, take}
 use Rattle.std.proofs.Math.Seq.{take-suc}
 use Rattle.std.proofs.lemmas.List.{map-append}

@@ -52,7 +52,8 @@ ends_added files files_then typed words a before between after status same of te
       words = words;
       takes =
           with_settings a of tells
-          (is ∙ ap₂ (λ (names rest : List Text). joined names (texts_of a.words) rest) (sym (take-map string_bytes 2 typed))
+          (is ∙ ap₂ (λ (names rest : List Text). joined names (texts_of a.words) rest)
+          (sym (take-map string_bytes 2 typed))
           (sym (drop-map string_bytes 2 typed)));
       ends = subst (λ (f : Files). Shows words between after ⊎ Obeys f words between after status) same how;
     }

@@ -6,5 +6,6 @@ use Rattle.fmp_looking.proofs.running.say_failed.Goals as goal
 pub returns-clause-ok : goal.returns-clause-ok
 returns-clause-ok g c =
     on_ok_weaker c.say_text.result
-    (λ h. says_both _ _ _ _ (utf8_lossy c.args.failed.now.report.items) c.say_seed.ensures (rw c.deref.ensures.value at h))
+    (λ h. says_both _ _ _ _ (utf8_lossy c.args.failed.now.report.items) c.say_seed.ensures
+    (rw c.deref.ensures.value at h))
     c.say_text.ensures.ok

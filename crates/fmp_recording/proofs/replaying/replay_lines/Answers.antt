@@ -2,7 +2,8 @@ use Rattle.std.proofs.Common.{◌+◌, ◌≤◌, add-one, arith, drop, drop-con
 use Rattle.std.proofs.lemmas.List.{drop_all}
 use Rattle.std.proofs.lemmas.Result.{err_from_is_err_and}
 use Rattle.fmp_trace.proofs.Appending.{on_err_from}
-use Rattle.fmp_recording.proofs.Replays.{cut_off, done_first, done_more, leads_first, leads_last, leads_on, leads_tied, not_all}
+use Rattle.fmp_recording.proofs.Replays.{cut_off, done_first, done_more, leads_first, leads_last, leads_on}
+use Rattle.fmp_recording.proofs.Replays.{leads_tied, not_all}
 use Rattle.fmp_recording.proofs.replaying.replay_lines.Goals as goal
 
 pub loop-line-init : goal.loop-line-init
