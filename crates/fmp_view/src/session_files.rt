@@ -61,7 +61,7 @@ fn take_all(
 }
 
 /// Takes the events of a steps text, if there is room for all of them.
-#[tactic(auto, using(crate::proofs::SessionLemmas::leaves_all, crate::proofs::SessionLemmas::refused_told, crate::proofs::SessionLemmas::no_file_told))]
+#[tactic(auto, using(crate::proofs::SessionLemmas::leaves_all, crate::proofs::SessionLemmas::refused_told))]
 fn take_events(
     alloc: Global,
     session: &mut Session<'_>,
@@ -80,7 +80,6 @@ fn take_events(
 }
 
 /// Takes the events of the steps text of a file of this name, if it has no fault.
-#[tactic(auto, using(crate::proofs::SessionLemmas::leaves_all, crate::proofs::SessionLemmas::refused_told, crate::proofs::SessionLemmas::no_file_told))]
 fn take_text(
     alloc: Global,
     session: &mut Session<'_>,
@@ -101,7 +100,7 @@ fn take_text(
 }
 
 /// Takes the events of the steps text of a file.
-#[tactic(auto, using(crate::proofs::SessionLemmas::leaves_all, crate::proofs::SessionLemmas::refused_told, crate::proofs::SessionLemmas::no_file_told))]
+#[tactic(auto, using(crate::proofs::SessionLemmas::leaves_all, crate::proofs::SessionLemmas::no_file_told))]
 pub fn load<O: Outside>(
     alloc: Global,
     outside: &O,
