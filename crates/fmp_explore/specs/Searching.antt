@@ -284,7 +284,7 @@ pub record IsWhole (asked : Asked) (s : Search) : Type 0 where
 
 -- a search that ended because no state is left has examined every state
 abbrev pub HasEnded : Asked → Search → Ending → Type 0
-HasEnded asked s how = how ≡ ending.Whole → IsWhole asked s
+HasEnded asked s how = how ≡ ending.Complete → IsWhole asked s
 
 -- nothing that is asked about is found along any schedule
 pub record NothingIsFound (i : ImageTables) (n : ℕ) (q : Question) : Type 0 where

@@ -66,8 +66,8 @@ pub struct Report {
 /// The table of values, where the search stopped at a limit; none where there is no memory for it.
 fn table(alloc: Global, survey: &Search, ending: Ending) -> Vec<Variety> {
     match ending {
-        Ending::Whole | Ending::Enough => Vec::new(alloc),
-        Ending::States | Ending::Time | Ending::Memory => {
+        Ending::Complete | Ending::Found => Vec::new(alloc),
+        Ending::StateLimit | Ending::TimeLimit | Ending::OutOfMemory => {
             match survey.varieties(alloc) {
                 Ok(table) => table,
                 Err(_) => Vec::new(alloc),
@@ -90,12 +90,12 @@ fn asked_for(
 }
 
 /// Whether a search that ended so has examined every state.
-fn is_whole(ending: Ending) -> bool
-    ensures { IsTrue result → ending ≡ Ending.Whole }
+fn is_complete(ending: Ending) -> bool
+    ensures { IsTrue result → ending ≡ Ending.Complete }
 {
     match ending {
-        Ending::Whole => true,
-        Ending::Enough | Ending::States | Ending::Time | Ending::Memory => false,
+        Ending::Complete => true,
+        Ending::Found | Ending::StateLimit | Ending::TimeLimit | Ending::OutOfMemory => false,
     }
 }
 
@@ -147,9 +147,9 @@ fn with_stuck<W: SearchWatcher>(
 
 /// Whether stuck tasks are looked for after a search that has ended so with these candidates.
 fn is_open(question: &Question, ending: Ending, candidates: &[Finding]) -> bool
-    ensures { IsTrue result → ending ≡ Ending.Whole }
+    ensures { IsTrue result → ending ≡ Ending.Complete }
 {
-    is_whole(ending) && (question.all || candidates.iter().all(|found| is_beside(found)))
+    is_complete(ending) && (question.all || candidates.iter().all(|found| is_beside(found)))
 }
 
 /// The findings of a search that has ended, which forgets them. Stuck tasks are looked for where every state was
@@ -162,7 +162,7 @@ fn findings_of<W: SearchWatcher>(
     watcher: &mut W,
 ) -> Result<SearchFindings, AllocError>
     ensures found { IfOk result (λ found. AreFound (asked_of subject.now) found.findings.items) }
-    ensures stuck { IfOk result (λ found. found.stuck_search ≢ StuckSearch.Skipped → ending ≡ Ending.Whole) }
+    ensures stuck { IfOk result (λ found. found.stuck_search ≢ StuckSearch.Skipped → ending ≡ Ending.Complete) }
 {
     let question = subject.question;
     let candidates = asked_for(alloc, question, survey.take_candidates(alloc)?)?;
@@ -180,13 +180,13 @@ fn findings_of<W: SearchWatcher>(
 
 /// Whether a search that ended so shows that nothing is found along any schedule.
 fn shows_all(survey: &Search, question: &Question, ending: Ending) -> bool
-    ensures ending { IsTrue result → ending ≡ Ending.Whole }
+    ensures ending { IsTrue result → ending ≡ Ending.Complete }
     ensures sure { IsTrue result → survey.now.sure ≡ true }
     ensures after { IsTrue result → question.now.after.items ≡ [] }
 {
     match ending {
-        Ending::Whole => survey.sure && question.after.is_empty(),
-        Ending::Enough | Ending::States | Ending::Time | Ending::Memory => false,
+        Ending::Complete => survey.sure && question.after.is_empty(),
+        Ending::Found | Ending::StateLimit | Ending::TimeLimit | Ending::OutOfMemory => false,
     }
 }
 
@@ -198,11 +198,11 @@ fn make_report<W: SearchWatcher>(
     ending: Ending,
     watcher: &mut W,
 ) -> Result<Report, AllocError>
-    requires holds { ending ≡ Ending.Whole → survey.old.sure ≡ true →
+    requires holds { ending ≡ Ending.Complete → survey.old.sure ≡ true →
         subject.now.question.now.after.items ≡ [] → NoneIsFound (asked_of subject.now) }
     ensures findings { IfOk result (λ r. AreFound (asked_of subject.now) r.findings.items) }
     ensures holds { IfOk result (λ r. r.holds ≡ true → NoneIsFound (asked_of subject.now)) }
-    ensures stuck { IfOk result (λ r. r.stuck_search ≢ StuckSearch.Skipped → r.ending ≡ Ending.Whole) }
+    ensures stuck { IfOk result (λ r. r.stuck_search ≢ StuckSearch.Skipped → r.ending ≡ Ending.Complete) }
 {
     let holds = shows_all(survey, subject.question, ending);
     let found = findings_of(alloc, subject, survey, ending, watcher)?;
@@ -249,7 +249,7 @@ pub fn run_search<W: SearchWatcher, C: Crew>(
 {
     match survey.run(alloc, crew, subject, watcher) {
         Ok(ending) => ending,
-        Err(_) => Ending::Memory,
+        Err(_) => Ending::OutOfMemory,
     }
 }
 
@@ -265,7 +265,7 @@ fn explore_written<W: SearchWatcher, C: Crew>(
     ensures findings { IfOk result (λ found. IfSome found (λ r. AreFound (asked_of subject.now) r.findings.items)) }
     ensures holds { IfOk result (λ found. IfSome found (λ r. r.holds ≡ true → NoneIsFound (asked_of subject.now))) }
     ensures stuck { IfOk result (λ found. IfSome found
-        (λ r. r.stuck_search ≢ StuckSearch.Skipped → r.ending ≡ Ending.Whole)) }
+        (λ r. r.stuck_search ≢ StuckSearch.Skipped → r.ending ≡ Ending.Complete)) }
 {
     let mut survey = start_search(alloc, true, subject)?;
     let ending = run_search(alloc, crew, &mut survey, subject, watcher);
@@ -286,7 +286,7 @@ fn explore_plainly<W: SearchWatcher, C: Crew>(
     requires { C.can_work crew.now }
     ensures findings { IfOk result (λ r. AreFound (asked_of subject.now) r.findings.items) }
     ensures holds { IfOk result (λ r. r.holds ≡ true → NoneIsFound (asked_of subject.now)) }
-    ensures stuck { IfOk result (λ r. r.stuck_search ≢ StuckSearch.Skipped → r.ending ≡ Ending.Whole) }
+    ensures stuck { IfOk result (λ r. r.stuck_search ≢ StuckSearch.Skipped → r.ending ≡ Ending.Complete) }
 {
     let mut survey = start_search(alloc, false, subject)?;
     let ending = run_search(alloc, crew, &mut survey, subject, watcher);
@@ -303,7 +303,7 @@ fn explore_subject<W: SearchWatcher, C: Crew>(
     requires { C.can_work crew.now }
     ensures findings { IfOk result (λ r. AreFound (asked_of subject.now) r.findings.items) }
     ensures holds { IfOk result (λ r. r.holds ≡ true → NoneIsFound (asked_of subject.now)) }
-    ensures stuck { IfOk result (λ r. r.stuck_search ≢ StuckSearch.Skipped → r.ending ≡ Ending.Whole) }
+    ensures stuck { IfOk result (λ r. r.stuck_search ≢ StuckSearch.Skipped → r.ending ≡ Ending.Complete) }
 {
     match explore_written(alloc, crew, subject, watcher)? {
         Some(report) => Ok(report),
@@ -330,7 +330,7 @@ pub fn explore<W: SearchWatcher>(
     ensures there { IfOk result (λ r. r.holds ≡ true → HoldsThere (rules_of question.now) image.now.system
         (code_meaning image.now.code) n (forbids question.now.nevers.items)
         (forbids_there image.now.system question.now.nevers_at.items)) }
-    ensures stuck { IfOk result (λ r. r.stuck_search ≢ StuckSearch.Skipped → r.ending ≡ Ending.Whole) }
+    ensures stuck { IfOk result (λ r. r.stuck_search ≢ StuckSearch.Skipped → r.ending ≡ Ending.Complete) }
 {
     let subject = SearchSubject { image, n, question };
     explore_subject(alloc, &Alone, &subject, watcher)
@@ -353,7 +353,7 @@ pub fn explore_beside<W: SearchWatcher, R: Threads + Sync>(
     ensures there { IfOk result (λ r. r.holds ≡ true → HoldsThere (rules_of question.now) image.now.system
         (code_meaning image.now.code) n (forbids question.now.nevers.items)
         (forbids_there image.now.system question.now.nevers_at.items)) }
-    ensures stuck { IfOk result (λ r. r.stuck_search ≢ StuckSearch.Skipped → r.ending ≡ Ending.Whole) }
+    ensures stuck { IfOk result (λ r. r.stuck_search ≢ StuckSearch.Skipped → r.ending ≡ Ending.Complete) }
 {
     let subject = SearchSubject { image, n, question };
     explore_subject(alloc, &Workers { rt, jobs }, &subject, watcher)

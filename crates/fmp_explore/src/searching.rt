@@ -27,15 +27,15 @@ pub trait SearchWatcher {
 #[derive(Clone, Copy, Debug, PartialEq, Eq)]
 pub enum Ending {
     /// Every state was examined.
-    Whole,
+    Complete,
     /// Something was found, and no more was asked for.
-    Enough,
+    Found,
     /// The greatest number of states was kept.
-    States,
+    StateLimit,
     /// The time that is allowed was over.
-    Time,
+    TimeLimit,
     /// There was no more memory.
-    Memory,
+    OutOfMemory,
 }
 
 impl Search {
@@ -46,7 +46,7 @@ impl Search {
         watcher: &mut W,
         state: u32,
     ) -> Option<Ending>
-        ensures { IfSome result (λ ending. ending ≢ Ending.Whole) }
+        ensures { IfSome result (λ ending. ending ≢ Ending.Complete) }
     {
         let depth = subject
             .question
@@ -54,11 +54,11 @@ impl Search {
             .len()
             .saturating_add(self.depth_of(state) as usize);
         if self.unwritten || !subject.question.all && self.notes.has_within(depth) {
-            Some(Ending::Enough)
+            Some(Ending::Found)
         } else if self.full {
-            Some(Ending::States)
+            Some(Ending::StateLimit)
         } else if watcher.is_over() {
-            Some(Ending::Time)
+            Some(Ending::TimeLimit)
         } else {
             None
         }
@@ -67,9 +67,9 @@ impl Search {
     /// Why the search ends where every state that is kept was examined.
     fn last_ending(&self) -> Ending {
         if self.full {
-            Ending::States
+            Ending::StateLimit
         } else {
-            Ending::Whole
+            Ending::Complete
         }
     }
 
@@ -112,7 +112,7 @@ impl Search {
             }
             self.advance(alloc, crew, subject, top, work, watcher, &mut progress)?;
         }
-        Ok(Ending::States)
+        Ok(Ending::StateLimit)
     }
 
     /// The same, with a kernel of its own on which events are tried.

@@ -300,11 +300,11 @@ fn shows_silence<W: SearchWatcher>(
 {
     subject.image.keeps_rules();
     match run_search(alloc, &Alone, survey, subject, &mut Quiet { watcher }) {
-        Ending::Whole => Ok(survey.sure),
-        Ending::Enough => Ok(false),
-        Ending::States => Err(SearchLimit::States),
-        Ending::Time => Err(SearchLimit::Time),
-        Ending::Memory => Err(SearchLimit::Memory),
+        Ending::Complete => Ok(survey.sure),
+        Ending::Found => Ok(false),
+        Ending::StateLimit => Err(SearchLimit::States),
+        Ending::TimeLimit => Err(SearchLimit::Time),
+        Ending::OutOfMemory => Err(SearchLimit::Memory),
     }
 }
 

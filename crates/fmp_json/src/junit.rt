@@ -3,7 +3,8 @@ ghost use Rattle.std.specs.Prelude.{◌≡◌, ◌++◌, OnOk};
 ghost use Rattle.std.specs.List.{count_by};
 ghost use Rattle.fmp_json.specs.Junit as spec;
 
-use crate::xml::{append, append_content, append_number, append_text};
+use crate::text::append;
+use crate::xml::{append_content, append_number, append_text};
 use std::alloc::AllocError;
 
 /// What came of a test.

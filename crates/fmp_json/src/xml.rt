@@ -4,15 +4,9 @@ ghost use Rattle.std.specs.List.{list_all};
 ghost use Rattle.fmp_json.specs.Xml as spec;
 ghost use Rattle.fmp_json.specs.Junit as reports;
 
+use crate::text::append;
 use itoa::Buffer;
 use std::alloc::AllocError;
-
-/// Appends bytes.
-pub fn append(text: &[u8], out: &mut Vec<u8>) -> Result<(), AllocError>
-    ensures { OnOk result (out.new.items ≡ out.old.items ++ text.now) }
-{
-    out.extend_from_slice(text)
-}
 
 /// The reference that stands for a byte; none for a byte that stands for itself.
 #[tactic(auto, unfolding(crate::specs::Xml::escaped_byte))]

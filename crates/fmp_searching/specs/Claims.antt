@@ -294,11 +294,11 @@ seconds_text n = codes "stopped after " ++ seconds_limit n
 
 -- how a search ended that claims nothing
 unfoldable pub end_text : Question → Ending → (found : Bool) → List ℕ
-end_text q ending.States found = states_text q.states
-end_text q ending.Time found = seconds_text (unwrap_or q.seconds 0)
-end_text q ending.Memory found = codes "stopped: out of memory\n"
-end_text q ending.Whole found = unconfirmed_text found
-end_text q ending.Enough found = unconfirmed_text found
+end_text q ending.StateLimit found = states_text q.states
+end_text q ending.TimeLimit found = seconds_text (unwrap_or q.seconds 0)
+end_text q ending.OutOfMemory found = codes "stopped: out of memory\n"
+end_text q ending.Complete found = unconfirmed_text found
+end_text q ending.Found found = unconfirmed_text found
 
 -- what a search says at its end: its claim, if its report holds, or why it claims nothing
 unfoldable pub ending_text : ClaimTables → Report → List ℕ

@@ -31,7 +31,7 @@ use Rattle.fmp_searching.specs.Lines.{numbered}
 use Rattle.fmp_searching.specs.Made.{AnsweredCall, answered_calls, answers_of_calls, unmade_calls}
 use Rattle.fmp_searching.specs.Sentences.{sentence_text}
 use Rattle.fmp_searching.specs.Sources.{SourceTables}
-use Rattle.fmp_searching.specs.Unsaid.{is_unsaid, is_whole}
+use Rattle.fmp_searching.specs.Unsaid.{is_unsaid, is_complete}
 use Rattle.fmp_searching.specs.Varied.{kept_name}
 
 -- ---- sentences that say nothing
@@ -77,7 +77,7 @@ unsaid_line s place m came = if is_unsaid m.subject came then nothing_text s pla
 -- the sentences that say nothing, where every state was examined
 abbrev pub unsaid_text : SourceTables → Report → List ℕ
 unsaid_text s r =
-    if is_whole r.ending
+    if is_complete r.ending
     then numbered (λ place m came. unsaid_line s place m came) 0 s.claim.question.monitors.items r.premises.items
     else []
 
@@ -189,7 +189,7 @@ values_text s vs = flat_map (λ v. varied_line s (most_values vs) v) vs
 
 abbrev pub coverage_text : SourceTables → Report → List CallSite → List AnsweredCall → List Refused → List ℕ
 coverage_text s r unmade answered refused =
-    unmade_text s (is_whole r.ending) unmade
+    unmade_text s (is_complete r.ending) unmade
     ++ (asked_answers s answered
     ++ (flat_map (λ x. refused_line s x) refused
     ++ (unrun_text s.claim.image.system r

@@ -23,7 +23,7 @@ use Rattle.fmp_searching.specs.Lines.{numbered}
 use Rattle.fmp_searching.specs.Made.{AnsweredCall, answered_calls, answers_of_calls, unmade_calls}
 use Rattle.fmp_searching.specs.Members.{call_position, number_or_none, position_members, string_tokens}
 use Rattle.fmp_searching.specs.Sources.{SourceTables}
-use Rattle.fmp_searching.specs.Unsaid.{is_unsaid, is_whole}
+use Rattle.fmp_searching.specs.Unsaid.{is_unsaid, is_complete}
 use Rattle.fmp_searching.specs.Varied.{line_at}
 use Rattle.json.specs.Token.{Token}
 
@@ -44,7 +44,7 @@ unsaid_record s place m came = if is_unsaid m.subject came then subject_record s
 
 abbrev pub unsaid_records : SourceTables → Report → List ℕ
 unsaid_records s r =
-    if is_whole r.ending
+    if is_complete r.ending
     then numbered (λ place m came. unsaid_record s place m came) 0 s.claim.question.monitors.items r.premises.items
     else []
 

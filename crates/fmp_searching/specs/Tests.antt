@@ -14,7 +14,7 @@ use Rattle.fmp_searching.specs.Claims.{is_done}
 use Rattle.fmp_searching.specs.Parts.{never_parts}
 use Rattle.fmp_searching.specs.Seen.{is_broken}
 use Rattle.fmp_searching.specs.Sources.{SourceTables}
-use Rattle.fmp_searching.specs.Unsaid.{is_unsaid, is_whole}
+use Rattle.fmp_searching.specs.Unsaid.{is_unsaid, is_complete}
 use Rattle.fmp_searching.specs.declared.seen.Seen.{Seen}
 use Rattle.fmp_searching.specs.declared.seen.SeenKind.{SeenKind}
 use Rattle.fmp_searching.specs.declared.seen.SeenKind.TheVariants as kind
@@ -30,7 +30,7 @@ first_of asked place (s ∷ seen) = if is_broken asked s then Some place else fi
 -- the search is over with what is asked: stuck tasks were looked for, or every state was examined
 abbrev pub is_over : SeenKind → Report → Bool
 is_over kind.Stuck r = is_done r.stuck_search
-is_over _ r = r.holds || (is_whole r.ending && nat_lt 0 (length r.findings.items))
+is_over _ r = r.holds || (is_complete r.ending && nat_lt 0 (length r.findings.items))
 
 -- the sentence at a place says nothing
 abbrev pub is_unsaid_by : Option Monitor → (came : Option Bool) → Bool
@@ -40,7 +40,7 @@ is_unsaid_by (Some m) None = false
 
 abbrev pub is_unsaid_at : Question → Report → (place : ℕ) → Bool
 is_unsaid_at q r place =
-    is_whole r.ending && is_unsaid_by (slice_get q.monitors.items place) (slice_get r.premises.items place)
+    is_complete r.ending && is_unsaid_by (slice_get q.monitors.items place) (slice_get r.premises.items place)
 
 abbrev pub is_unsaid_kind : SeenKind → Question → Report → Bool
 is_unsaid_kind (kind.Alone place) q r = is_unsaid_at q r place

@@ -20,13 +20,13 @@ is_one_unsaid [] premises = false
 is_one_unsaid (m ∷ ms) [] = false
 is_one_unsaid (m ∷ ms) (came ∷ more) = is_unsaid m.subject came || is_one_unsaid ms more
 
-abbrev pub is_whole : Ending → Bool
-is_whole ending.Whole = true
-is_whole ending.Enough = false
-is_whole ending.States = false
-is_whole ending.Time = false
-is_whole ending.Memory = false
+abbrev pub is_complete : Ending → Bool
+is_complete ending.Complete = true
+is_complete ending.Found = false
+is_complete ending.StateLimit = false
+is_complete ending.TimeLimit = false
+is_complete ending.OutOfMemory = false
 
 -- a search that has examined every state has shown that a sentence of the question says nothing
 abbrev pub has_unsaid : Question → Report → Bool
-has_unsaid q r = is_whole r.ending && is_one_unsaid q.monitors.items r.premises.items
+has_unsaid q r = is_complete r.ending && is_one_unsaid q.monitors.items r.premises.items

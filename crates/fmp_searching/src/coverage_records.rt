@@ -18,7 +18,7 @@ use crate::records::{call_position, write_number, write_position};
 use crate::refused::refused_in;
 use crate::sentences::append_sentence;
 use crate::sources::ExploredSources;
-use crate::unsaid::{is_unsaid, is_whole};
+use crate::unsaid::{is_complete, is_unsaid};
 use crate::varied::append_varied;
 use crate::varieties::{is_varied, most_values};
 use fmp_base::{Er, System};
@@ -273,7 +273,7 @@ fn append_all_unsaid(
     ensures { OnOk result (out.new.items
         ≡ out.old.items ++ spec.unsaid_records (source_tables sources.now) report.now) }
 {
-    if !is_whole(report.ending) {
+    if !is_complete(report.ending) {
         return Ok(());
     }
     append_each_unsaid(

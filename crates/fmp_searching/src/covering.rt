@@ -13,7 +13,7 @@ use crate::claiming::append_number;
 use crate::made::{SeenCalls, seen_calls};
 use crate::refused::say_refused;
 use crate::sources::{ExploredSources, say, say_call};
-use crate::unsaid::is_whole;
+use crate::unsaid::is_complete;
 use fmp_base::{
     CyclicConfig, DataQueueConfig, MailboxConfig, Name, SemaphoreConfig, System, TaskConfig,
 };
@@ -414,7 +414,7 @@ fn say_coverage(
         calls.now.unmade.items (map answered_call calls.now.answered.items)
         (refused_calls (source_tables sources.now).claim.image.code calls.now.answers.items)) }
 {
-    say_unmade(out, sources, is_whole(report.ending), &calls.unmade)?;
+    say_unmade(out, sources, is_complete(report.ending), &calls.unmade)?;
     say_answers_and_rows(alloc, out, sources, report, calls)
 }
 

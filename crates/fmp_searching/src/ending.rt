@@ -196,11 +196,11 @@ pub fn append_end(
     ensures { OnOk result (out.new.items ≡ out.old.items ++ spec.end_text question.now ending found) }
 {
     match ending {
-        Ending::States => append_states(question.states, out),
-        Ending::Time => append_seconds(question.seconds.unwrap_or(0), out),
-        Ending::Memory => append(b"stopped: out of memory\n", out),
-        Ending::Whole | Ending::Enough if found => Ok(()),
-        Ending::Whole | Ending::Enough => append(UNCONFIRMED, out),
+        Ending::StateLimit => append_states(question.states, out),
+        Ending::TimeLimit => append_seconds(question.seconds.unwrap_or(0), out),
+        Ending::OutOfMemory => append(b"stopped: out of memory\n", out),
+        Ending::Complete | Ending::Found if found => Ok(()),
+        Ending::Complete | Ending::Found => append(UNCONFIRMED, out),
     }
 }
 

@@ -11,7 +11,7 @@ use crate::finding::say_seen;
 use crate::records::position_of;
 use crate::seen::{Seen, SeenKind};
 use crate::sources::ExploredSources;
-use crate::unsaid::{is_unsaid, is_whole};
+use crate::unsaid::{is_complete, is_unsaid};
 use fmp_explore::{Ending, Finding, Monitor, Question, Report};
 use fmp_json::{TestCase, Verdict};
 use fmp_trace::print_steps;
@@ -125,7 +125,7 @@ fn is_over(asked: SeenKind, report: &Report) -> bool
 {
     match asked {
         SeenKind::Stuck => is_done(report.stuck_search),
-        _ => report.holds || (is_whole(report.ending) && !report.findings.is_empty()),
+        _ => report.holds || (is_complete(report.ending) && !report.findings.is_empty()),
     }
 }
 
@@ -146,7 +146,7 @@ fn is_unsaid_among(monitors: &[Monitor], premises: &[bool], place: usize) -> boo
 fn is_unsaid_at(question: &Question, report: &Report, place: usize) -> bool
     ensures { result ≡ spec.is_unsaid_at question.now report.now place }
 {
-    is_whole(report.ending) && is_unsaid_among(&question.monitors, &report.premises, place)
+    is_complete(report.ending) && is_unsaid_among(&question.monitors, &report.premises, place)
 }
 
 /// Whether what is asked is a sentence that says nothing of any schedule.
@@ -213,8 +213,8 @@ fn unknown_message(
     report: &Report,
 ) -> Result<String, AllocError> {
     match (asked, report.ending) {
-        (SeenKind::Stuck, Ending::Whole) => unlooked_message(alloc, question, report),
-        (_, Ending::Enough) => {
+        (SeenKind::Stuck, Ending::Complete) => unlooked_message(alloc, question, report),
+        (_, Ending::Found) => {
             String::from_str(alloc, "not known: the search ended at its first finding")
         }
         _ => {

@@ -39,12 +39,12 @@ fn is_one_unsaid(monitors: &[Monitor], premises: &[bool]) -> bool
 }
 
 /// Whether a search that ended so has examined every state.
-pub fn is_whole(ending: Ending) -> bool
-    ensures { result ≡ spec.is_whole ending }
+pub fn is_complete(ending: Ending) -> bool
+    ensures { result ≡ spec.is_complete ending }
 {
     match ending {
-        Ending::Whole => true,
-        Ending::Enough | Ending::States | Ending::Time | Ending::Memory => false,
+        Ending::Complete => true,
+        Ending::Found | Ending::StateLimit | Ending::TimeLimit | Ending::OutOfMemory => false,
     }
 }
 
@@ -52,7 +52,7 @@ pub fn is_whole(ending: Ending) -> bool
 fn has_unsaid(question: &Question, report: &Report) -> bool
     ensures { result ≡ spec.has_unsaid question.now report.now }
 {
-    is_whole(report.ending) && is_one_unsaid(&question.monitors, &report.premises)
+    is_complete(report.ending) && is_one_unsaid(&question.monitors, &report.premises)
 }
 
 /// Whether a sentence that says nothing counts as a finding: there is one, and the search is strict.
@@ -203,7 +203,7 @@ pub fn say_all_unsaid(
     ensures { OnOk result (out.new.items
         ≡ out.old.items ++ extent.unsaid_text (source_tables sources.now) report.now) }
 {
-    if !is_whole(report.ending) {
+    if !is_complete(report.ending) {
         return Ok(());
     }
     say_each_unsaid(
