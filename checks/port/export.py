@@ -5,11 +5,12 @@
 
 Each example and COUNT random systems (500), one from each seed from SEED (1) on, are exported, and compiled without a
 warning by the usual compiler or by the other one of gcc and clang. The C is run in virtual time over the steps of the
-example, or over random ones: its trace and its states at the end are those of `fmp sim`. The C on docs/EXPORT.md is
-that of its example. Half of the random systems have the bodies of the model; the others have nested expressions, loops,
-arrays, and operands that fault by different faults. All of them have hexadecimal numbers and comments at random places,
-and the C has all comments, in the order of the text. The files of one example are built and run by their own Makefile,
-with what `make install-c` copies into a folder whose name has a blank, over steps in a file of such a name.
+example, or over random ones: its trace and its states at the end are those of `fmp sim`. So are those of each
+calculation at the limits of 32 bits. The C on docs/EXPORT.md is that of its example. Half of the random systems have
+the bodies of the model; the others have nested expressions, loops, arrays, and operands that fault by different faults.
+All of them have hexadecimal numbers and comments at random places, and the C has all comments, in the order of the
+text. The files of one example are built and run by their own Makefile, with what `make install-c` copies into a folder
+whose name has a blank, over steps in a file of such a name.
 
 LIVE systems more (60) are run by threads for 12 ms each, with random interrupts. They are checked against their texts:
 no body does what its text does not do. Their recordings, handed to a new kernel, give their traces again; and so does
@@ -37,7 +38,7 @@ sys.path[0] = str(Path(__file__).resolve().parents[1])  # the folder `checks`, w
 
 from common.program import ROOT, located  # noqa: E402
 from model.systems import Generator  # noqa: E402
-from port.texts import Texts  # noqa: E402
+from port.texts import Texts, limit_texts  # noqa: E402
 from program.documents import blocks  # noqa: E402
 
 SCRIPT = "checks/port/export.py"
@@ -290,6 +291,7 @@ def try_examples(bench):
             paths = [example.with_suffix(ending) for ending in (".cfg", ".src", ".steps")]
             lines += bench.compare(*paths, turn, "-O2")
         lines += bench.compare(*bench.written(ODD_CFG, ODD_SRC, "run 1\n" * STEPS), turn, "-O2")
+        lines += bench.compare(*bench.written(*limit_texts()), turn, "-O2", *ODD)
     check_page(bench)
     bench.by_makefile(examples()[0])
     return lines

@@ -1,7 +1,8 @@
 """Random task texts that nest what the bodies of the model do not: expressions, loops, and operands of which several
-may end a body, by different faults."""
+may end a body, by different faults; and a text that calculates at the limits of 32 bits."""
 
 import re
+from itertools import product
 
 from common.services import SERVICES
 
@@ -10,6 +11,8 @@ ARRAYS = {"a": 3, "b": 7}
 OPERATORS = ("||", "&&", "|", "^", "&", "==", "!=", "<", "<=", ">", ">=", "+", "+", "-", "-", "*", "*", "/", "%")
 CONSTANTS = ("E_OK", "E_TMOUT", "TMO_FEVR", "TSK_SELF", "TWF_ORW", "TA_CLR")
 FAULTING = ("1 / 0", "v % 0", "2147483647 + 1", "- (-2147483647 - 1)", "a[3]", "b[-1]", "a[v - v - 1]", "65536 * 65536")
+LIMITS = {"2147483647": "2147483647", "-2147483647": "-2147483647", "(-2147483647 - 1)": "-2147483647",
+          "46341": "46341", "-1": "-1", "0": "0", "1": "1"}  # each with the `exinf` that it is made of
 OBJECT = re.compile(r"CRE_\w+\((\w+),")
 
 # The service calls that bodies of tasks and of handlers make, beside `put`.
@@ -166,3 +169,13 @@ class Texts:
         if self.objects and self.chance(0.4):
             return self.random.choice(self.objects)
         return str(self.random.randint(0, 3))
+
+
+def limit_texts():
+    """The configuration, the bodies and the steps of tasks, each of which calculates once at the limits of 32 bits."""
+    cases = [*product(LIMITS, "+-*/%", LIMITS), *product(("",), "-", LIMITS)]
+    tasks = "".join(f"CRE_TSK(T{number},{{TA_ACT,{LIMITS[right]},t{number},8,512,NULL}});\n"
+                    for number, (_, _, right) in enumerate(cases))
+    source = "".join(f"task t{number} {{ put({left} {sign} {right.replace(LIMITS[right], 'exinf')}); }}\n"
+                     for number, (left, sign, right) in enumerate(cases))
+    return f"NUM_PRC(1);\nCLASS(TCL_1) {{\n{tasks}}}\n", source, "run 1\n" * (2 * len(cases))
