@@ -1,7 +1,7 @@
 -- What is said of settings that are refused.
 use Rattle.std.specs.Prelude.{ℕ, ◌≡◌, ◌++◌, codes, decimal}
-use Rattle.fmp_arguments.specs.declared.places.Refusal.{Refusal}
-use Rattle.fmp_arguments.specs.declared.places.Refusal.TheVariants as refusal
+use Rattle.fmp_arguments.specs.declared.settings_faults.Refusal.{Refusal}
+use Rattle.fmp_arguments.specs.declared.settings_faults.Refusal.TheVariants as refusal
 use Rattle.fmp_arguments.specs.Settings.{Text}
 
 -- the line that is refused

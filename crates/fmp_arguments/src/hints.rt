@@ -9,7 +9,7 @@ use std::alloc::{AllocError, Global};
 /// Whether the comment of a line begins with a digit, as a handler of the trace does: `#3`.
 fn has_number_sign(line: &[u8]) -> bool {
     match line.iter().position(|byte| *byte == b'#') {
-        Some(place) => matches!(&line[place + 1..], [b'0'..=b'9', ..]),
+        Some(position) => matches!(&line[position + 1..], [b'0'..=b'9', ..]),
         None => false,
     }
 }
@@ -45,9 +45,9 @@ fn relation_meant(bytes: &[u8]) -> Option<&'static str> {
 fn head_length(bytes: &[u8], of_relation: bool) -> usize
     ensures { result ≤ length bytes.now }
 {
-    for place in 0..bytes.len() {
-        if is_of_relation(bytes[place]) != of_relation {
-            return place;
+    for position in 0..bytes.len() {
+        if is_of_relation(bytes[position]) != of_relation {
+            return position;
         }
     }
     bytes.len()

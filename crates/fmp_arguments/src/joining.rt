@@ -1,12 +1,12 @@
 //! The words of a command line, with those of settings.
 ghost use Rattle.std.specs.Prelude.{◌≡◌, ◌++◌, IfOk, MatchResult, OnOk, drop, map, string_bytes, take};
 ghost use Rattle.fmp_arguments.specs.Joined as spec;
-ghost use Rattle.fmp_arguments.specs.Places.{IsRefusal};
+ghost use Rattle.fmp_arguments.specs.SettingsFaults.{IsRefusal};
 ghost use Rattle.fmp_arguments.specs.Settings.{setting_view, texts_of};
 
 use crate::keys::Key;
-use crate::places::{Refusal, read_settings};
 use crate::reading::Setting;
+use crate::settings_faults::{Refusal, read_settings};
 use crate::values::is_among;
 use std::alloc::{AllocError, Global};
 

@@ -10,10 +10,10 @@ mod hints;
 mod joining;
 mod keys;
 mod known_words;
-mod places;
 mod ranges;
 mod reading;
 mod refusals;
+mod settings_faults;
 mod values;
 
 pub use arguments::{
@@ -27,7 +27,7 @@ pub use given::{
 pub use joining::{added_words, join, used_text};
 pub use keys::{KEYS, Key, SETTINGS, ValueKind};
 pub use known_words::{add_deeds, add_name, add_tasks, question_text};
-pub use places::{Refusal, read_settings};
 pub use ranges::kept_events;
 pub use reading::{Setting, Wrong};
 pub use refusals::refusal_text;
+pub use settings_faults::{Refusal, read_settings};

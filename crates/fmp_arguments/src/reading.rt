@@ -2,7 +2,7 @@
 ghost use Rattle.std.specs.Prelude.{◌≡◌, IfErr, IfOk, map, option_map};
 ghost use Rattle.std.specs.Result.{result_ok};
 ghost use Rattle.toml.specs.View.{table_view};
-ghost use Rattle.fmp_arguments.specs.Places.{IsWrongAmong, IsWrongOf};
+ghost use Rattle.fmp_arguments.specs.SettingsFaults.{IsWrongAmong, IsWrongOf};
 ghost use Rattle.fmp_arguments.specs.Settings.{members_settings, setting_view};
 
 use crate::keys::{Key, ValueKind, kind_of};

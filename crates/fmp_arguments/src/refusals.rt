@@ -3,8 +3,8 @@ ghost use Rattle.std.specs.Prelude.{IfOk, string_bytes};
 ghost use Rattle.fmp_arguments.specs.Refusals.{IsAt, line_of};
 
 use crate::keys::{Key, ValueKind};
-use crate::places::Refusal;
 use crate::reading::Wrong;
+use crate::settings_faults::Refusal;
 use itoa::Buffer;
 use std::alloc::{AllocError, Global};
 

@@ -3,7 +3,7 @@ use Rattle.std.proofs.lemmas.Grind.{common_steps}
 use Rattle.toml.specs.View.{members_view, view}
 use Rattle.toml.proofs.Views.{Entry}
 use Rattle.fmp_arguments.specs.declared.reading.Setting.{Setting}
-use Rattle.fmp_arguments.specs.Places.{IsWrongAmong}
+use Rattle.fmp_arguments.specs.SettingsFaults.{IsWrongAmong}
 use Rattle.fmp_arguments.specs.Settings.{members_settings, prepend, setting_view}
 use Rattle.fmp_arguments.proofs.Members.{settings_more, words_known}
 use Rattle.fmp_arguments.proofs.reading.table_settings.Goals as goal

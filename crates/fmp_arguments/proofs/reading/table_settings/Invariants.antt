@@ -1,7 +1,7 @@
 use Rattle.std.proofs.Common.{◌≡◌, map}
 use Rattle.toml.specs.View.{members_view}
 use Rattle.fmp_arguments.specs.declared.reading.Wrong.{Wrong}
-use Rattle.fmp_arguments.specs.Places.{IsWrongAmong}
+use Rattle.fmp_arguments.specs.SettingsFaults.{IsWrongAmong}
 use Rattle.fmp_arguments.specs.Settings.{members_settings, prepend, setting_view}
 use Rattle.fmp_arguments.proofs.reading.table_settings.Given as goal
 

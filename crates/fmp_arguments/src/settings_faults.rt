@@ -1,9 +1,9 @@
 //! What a text of settings says, or where it is refused.
 ghost use Rattle.std.specs.Prelude.{◌≡◌, ◌≤◌, IfOk, MatchResult, Some, length, map};
 ghost use Rattle.toml.specs.Errors.{IsWithin};
-ghost use Rattle.fmp_arguments.specs.Places as spec;
-ghost use Rattle.fmp_arguments.specs.Places.{BeginsAt, GoesThrough, IsFormFault, IsNoDocument, IsPlace};
-ghost use Rattle.fmp_arguments.specs.Places.{IsRefusal, IsWrong, LooksAt};
+ghost use Rattle.fmp_arguments.specs.SettingsFaults as spec;
+ghost use Rattle.fmp_arguments.specs.SettingsFaults.{BeginsAt, GoesThrough, IsFormFault, IsNoDocument, IsMemberFault};
+ghost use Rattle.fmp_arguments.specs.SettingsFaults.{IsRefusal, IsWrong, LooksAt};
 ghost use Rattle.fmp_arguments.specs.Settings.{setting_view, settings_of};
 
 use crate::keys::Key;
@@ -55,26 +55,34 @@ fn look_at(alloc: Global, folder: &str, keys: &[Key], text: &[u8]) -> Result<Loo
     }
 }
 
-/// Looks at what stands through the end of a line, which is `end`: after it stands the line of this number. What is
-/// read before begins another member at the line `start`.
+/// The end of a line of a text.
+#[derive(Clone, Copy)]
+struct LineEnd {
+    /// How many bytes stand through it.
+    position: usize,
+    /// The number of the line after it.
+    next: usize,
+    /// The number of the line in which the member begins that is not read yet.
+    start: usize,
+}
+
+/// Looks at what stands through the end of a line.
 fn look_through(
     alloc: Global,
     folder: &str,
     keys: &[Key],
     text: &[u8],
-    end: usize,
-    line: usize,
-    start: usize,
+    end: LineEnd,
 ) -> Result<Lines, AllocError>
-    requires within { end ≤ length text.now }
-    requires is_line { line ≡ spec.line_behind text.now end }
-    requires begins { BeginsAt folder.now keys.now text.now start }
+    requires within { end.position ≤ length text.now }
+    requires is_line { end.next ≡ spec.line_after text.now end.position }
+    requires begins { BeginsAt folder.now keys.now text.now end.start }
     ensures { IfOk result (GoesThrough folder.now keys.now text.now) }
 {
-    match look_at(alloc, folder, keys, &text[..end])? {
-        Look::Read(_) => Ok(Lines::Through(line)),
-        Look::Wrong(wrong) => Ok(Lines::Refused(start, wrong)),
-        Look::Unfinished(_) => Ok(Lines::Through(start)),
+    match look_at(alloc, folder, keys, &text[..end.position])? {
+        Look::Read(_) => Ok(Lines::Through(end.next)),
+        Look::Wrong(wrong) => Ok(Lines::Refused(end.start, wrong)),
+        Look::Unfinished(_) => Ok(Lines::Through(end.start)),
     }
 }
 
@@ -93,7 +101,12 @@ fn through_lines(
     for at in 0..text.len() {
         if text[at] == b'\n' {
             line += 1;
-            match look_through(alloc, folder, keys, text, at + 1, line, start)? {
+            let end = LineEnd {
+                position: at + 1,
+                next: line,
+                start,
+            };
+            match look_through(alloc, folder, keys, text, end)? {
                 Lines::Through(next) => start = next,
                 Lines::Refused(first, wrong) => return Ok(Lines::Refused(first, wrong)),
             }
@@ -104,9 +117,9 @@ fn through_lines(
 
 /// The number of the line that begins after this many bytes of a text.
 #[tactic(auto, using(crate::proofs::Lines::line_steps))]
-fn line_behind(text: &[u8], before: usize) -> usize
+fn line_after(text: &[u8], before: usize) -> usize
     requires { before ≤ length text.now }
-    ensures { result ≡ spec.line_behind text.now before }
+    ensures { result ≡ spec.line_after text.now before }
 {
     let mut line: usize = 1;
     for at in 0..before {
@@ -136,7 +149,7 @@ fn form_fault(alloc: Global, text: &[u8], error: &Error) -> Result<(usize, Strin
 {
     let before = start_of(text, error);
     let message = String::from_str(alloc, error.message())?;
-    Ok((line_behind(text, before), message))
+    Ok((line_after(text, before), message))
 }
 
 /// The line at which a wrong member of a text begins, and what is wrong.
@@ -148,7 +161,7 @@ fn member_fault(
     wrong: Wrong,
 ) -> Result<(usize, Wrong), AllocError>
     requires { IsWrong folder.now keys.now text.now wrong }
-    ensures { IfOk result (λ fault. IsPlace folder.now keys.now text.now fault.0 fault.1) }
+    ensures { IfOk result (λ fault. IsMemberFault folder.now keys.now text.now fault.0 fault.1) }
 {
     match through_lines(alloc, folder, keys, text)? {
         Lines::Refused(line, wrong) => Ok((line, wrong)),

@@ -1,5 +1,5 @@
 use Rattle.fmp_arguments.proofs.Lines.{whole_wrong}
-use Rattle.fmp_arguments.proofs.places.member_fault.Goals as goal
+use Rattle.fmp_arguments.proofs.settings_faults.member_fault.Goals as goal
 
 pub returns-in-Through : goal.returns-in-Through
 returns-in-Through c =

@@ -6,20 +6,20 @@ use Rattle.toml.specs.Data.{Members, member, no_members}
 use Rattle.toml.specs.Parse.{parse_document}
 use Rattle.toml.specs.Errors.{IsWithin}
 use Rattle.fmp_arguments.specs.declared.keys.Key.{Key}
-use Rattle.fmp_arguments.specs.declared.places.Look.{Look}
-use Rattle.fmp_arguments.specs.declared.places.Look.TheVariants as look
+use Rattle.fmp_arguments.specs.declared.settings_faults.Look.{Look}
+use Rattle.fmp_arguments.specs.declared.settings_faults.Look.TheVariants as look
 use Rattle.fmp_arguments.specs.declared.reading.Wrong.{Wrong}
 use Rattle.fmp_arguments.specs.declared.reading.Wrong.TheVariants as wrong
-use Rattle.fmp_arguments.specs.declared.places.Lines.{Lines}
-use Rattle.fmp_arguments.specs.declared.places.Lines.TheVariants as lines
-use Rattle.fmp_arguments.specs.declared.places.Refusal.{Refusal}
-use Rattle.fmp_arguments.specs.declared.places.Refusal.TheVariants as refusal
+use Rattle.fmp_arguments.specs.declared.settings_faults.Lines.{Lines}
+use Rattle.fmp_arguments.specs.declared.settings_faults.Lines.TheVariants as lines
+use Rattle.fmp_arguments.specs.declared.settings_faults.Refusal.{Refusal}
+use Rattle.fmp_arguments.specs.declared.settings_faults.Refusal.TheVariants as refusal
 use Rattle.fmp_arguments.specs.Settings.{Text, kind_of, member_words, members_settings}
 use Rattle.fmp_arguments.specs.Settings.{setting_view, settings_of}
 
 -- the number of the line, from 1, that begins after this many bytes
-abbrev pub line_behind : List ℕ → ℕ → ℕ
-line_behind text before = count_by (λ byte. byte == 10) (take before text) + 1
+abbrev pub line_after : List ℕ → ℕ → ℕ
+line_after text before = count_by (λ byte. byte == 10) (take before text) + 1
 
 -- what is wrong with a member of this name, for which there are no words
 abbrev pub IsWrongOf : List Key → (name : Text) → Wrong → Type 0
@@ -52,11 +52,11 @@ LooksAt folder keys text (look.Unfinished e) = IsNoDocument text × IsWithin tex
 -- a line begins after what is read, or at the beginning
 pub record BeginsAt (folder : Text) (keys : List Key) (text : List ℕ) (line : ℕ) : Type 0 where
   pub before : ℕ
-  pub is_line : line ≡ line_behind text before
+  pub is_line : line ≡ line_after text before
   pub read : 0 < before → IsSome (settings_of folder keys (take before text))
 
 -- What stands before this line is read, and with some of what follows this is wrong with a member.
-pub record IsPlace (folder : Text) (keys : List Key) (text : List ℕ) (line : ℕ) (w : Wrong) : Type 0 where
+pub record IsMemberFault (folder : Text) (keys : List Key) (text : List ℕ) (line : ℕ) (w : Wrong) : Type 0 where
   pub begins : BeginsAt folder keys text line
   pub through : ℕ
   pub wrong : IsWrong folder keys (take through text) w
@@ -66,14 +66,14 @@ pub record IsFormFault (text : List ℕ) (line : ℕ) : Type 0 where
   pub none : IsNoDocument text
   pub before : ℕ
   pub within : before ≤ length text
-  pub is_line : line ≡ line_behind text before
+  pub is_line : line ≡ line_after text before
 
 -- where a text is refused, and why
 abbrev pub IsRefusal : (folder : Text) → List Key → (text : List ℕ) → Refusal → Type 0
-IsRefusal folder keys text (refusal.Member line w) = IsPlace folder keys text line w
+IsRefusal folder keys text (refusal.Member line w) = IsMemberFault folder keys text line w
 IsRefusal folder keys text (refusal.Form line message) = IsFormFault text line
 
 -- a text is refused before the end of a line of it; or a line begins after all lines that are read
 abbrev pub GoesThrough : (folder : Text) → List Key → (text : List ℕ) → Lines → Type 0
-GoesThrough folder keys text (lines.Refused line w) = IsPlace folder keys text line w
+GoesThrough folder keys text (lines.Refused line w) = IsMemberFault folder keys text line w
 GoesThrough folder keys text (lines.Through line) = BeginsAt folder keys text line
