@@ -66,7 +66,7 @@ breaks_line : (e : Sentence) (before : List Seen) (l : Line)
     → breaks_by_line e (standing_of e before) l ≡ breaks e before (OfLine l)
 breaks_line e before l = breaks_is e before (OfLine l)
 
--- what is kept behind the lines of an event
+-- what is kept after the lines of an event
 after_lines : (e : Sentence) (n : ℕ) (ls : List Line) (told : List Told)
     → monitor_after (monitor e (standing_of e (seen_in told))) ls
     ≡ monitor e (standing_of e (seen_in (with_lines n ls told)))

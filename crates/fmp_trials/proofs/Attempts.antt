@@ -102,9 +102,9 @@ module _ {B C J : Type 0} (meaning : B → Meaning C) (breaks : Breaks B C J) (s
   no_longer_after old new place false below h =
       subst (λ (xs : List Event). length xs ≤ length old.steps.items) (sym h.0) (omega arith)
 
-  -- nothing can go behind the last event
-  pub none_behind : (run : FailingRun) → NoneCanGo meaning breaks s run (length run.steps.items) false
-  none_behind run = λ _ room i from below. absurd (omega (arith, from, below))
+  -- nothing can go after the last event
+  pub none_after : (run : FailingRun) → NoneCanGo meaning breaks s run (length run.steps.items) false
+  none_after run = λ _ room i from below. absurd (omega (arith, from, below))
 
   pub any_can_go : (run : FailingRun) (place : ℕ) → NoneCanGo meaning breaks s run place true
   any_can_go run place = λ so. absurd (cc)
@@ -113,7 +113,7 @@ module _ {B C J : Type 0} (meaning : B → Meaning C) (breaks : Breaks B C J) (s
   pub none_more : (old new : FailingRun) (place : ℕ) (dropped : Bool) → new.broken.line ≡ old.broken.line
       → new.room ≤ old.room → IsTried meaning breaks s old new (without old.steps.items place (place + 1)) false
       → NoneCanGo meaning breaks s old (place + 1) dropped → NoneCanGo meaning breaks s new place dropped
-  none_more old new place dropped line room h behind = λ so left i from below.
+  none_more old new place dropped line room h later = λ so left i from below.
       let es = old.steps.items in
       let inside : i < length es = subst (λ (xs : List Event). i < length xs) h.0 below in
       let held : is_at old.broken.line (broken_by meaning breaks s (without es i (i + 1))) ≡ false =
@@ -121,7 +121,7 @@ module _ {B C J : Type 0} (meaning : B → Meaning C) (breaks : Breaks B C J) (s
       (λ (e : place ≡ i).
       subst (λ (j : ℕ). is_at old.broken.line (broken_by meaning breaks s (without es j (j + 1))) ≡ false) e
       (h.1 left))
-      (λ (lt : place < i). behind so (omega (arith, left, room)) i (omega (arith, lt)) inside)
+      (λ (lt : place < i). later so (omega (arith, left, room)) i (omega (arith, lt)) inside)
       (eq-or-lt_of_le from) in
       subst (λ (xs : List Event). is_at new.broken.line (broken_by meaning breaks s (without xs i (i + 1))) ≡ false)
       (sym h.0) (subst (λ (l : ℕ). is_at l (broken_by meaning breaks s (without es i (i + 1))) ≡ false) (sym line) held)
@@ -133,15 +133,15 @@ module _ {B C J : Type 0} (meaning : B → Meaning C) (breaks : Breaks B C J) (s
 
 module _ {B C J : Type 0} (meaning : B → Meaning C) (breaks : Breaks B C J) where
   -- where an event was tried and stays
-  pub behind_after : (s s' : Subject B C J) (old new : FailingRun) (place : ℕ) (gone dropped : Bool) → s' ≡ s
+  pub none_can_go_after : (s s' : Subject B C J) (old new : FailingRun) (place : ℕ) (gone dropped : Bool) → s' ≡ s
       → gone ≡ false → GoesOn old new
       → IsTried meaning breaks s' old new (without old.steps.items place (place + 1)) gone
       → NoneCanGo meaning breaks s old (place + 1) dropped → NoneCanGo meaning breaks s' new place dropped
-  behind_after s s' old new place gone dropped same stays on tried behind =
+  none_can_go_after s s' old new place gone dropped same stays on tried later =
       none_more meaning breaks s' old new place dropped on.line on.room
       (subst (λ (b : Bool). IsTried meaning breaks s' old new (without old.steps.items place (place + 1)) b) stays
       tried)
-      (none_there meaning breaks s s' old (place + 1) dropped same behind)
+      (none_there meaning breaks s s' old (place + 1) dropped same later)
 
   -- where nothing was dropped and there is room left
   pub shortest_at : (s : Subject B C J) (run : FailingRun) (dropped : Bool) → dropped ≡ false → 0 < run.room

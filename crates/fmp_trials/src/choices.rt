@@ -38,7 +38,7 @@ pub struct Choices<'a> {
 }
 
 impl<'a> Choices<'a> {
-    /// The choices of the run of this seed. Most mistakes need few changes of processor at the right places, so these
+    /// The choices of the run of this seed. Most mistakes need few changes of processor at the right moments, so these
     /// come once in 1, 4, 16 or 64 events, which is a choice too.
     pub fn new(plan: RunPlan<'a>, seed: u64) -> Choices<'a>
         ensures { result ≡ spec.choices_of plan.entry seed }

@@ -28,6 +28,14 @@ pub struct FailingRun {
     pub room: u64,
 }
 
+/// A piece of a run: the events from one place up to another, but for the runs of one processor.
+#[derive(Clone, Copy)]
+struct Piece {
+    first: usize,
+    end: usize,
+    kept: u8,
+}
+
 /// Whether what is broken, if something is, stands in the line of this number.
 fn is_at(broken: Option<BrokenExpectation>, line: usize) -> bool
     ensures { result ≡ spec.is_at line broken }
@@ -54,18 +62,13 @@ fn without(
     Ok(left)
 }
 
-/// The events without those from one place up to another, of which the runs of one processor stay.
-fn thinned(
-    alloc: Global,
-    events: &[Event],
-    first: usize,
-    end: usize,
-    kept: u8,
-) -> Result<Vec<Event>, AllocError>
-    requires first { first ≤ end }
-    requires end { end ≤ length events.now }
+/// The events without a piece, of which the runs of its processor stay.
+fn thinned(alloc: Global, events: &[Event], piece: Piece) -> Result<Vec<Event>, AllocError>
+    requires first { piece.first ≤ piece.end }
+    requires end { piece.end ≤ length events.now }
     ensures { IfOk result (λ left. length left.items ≤ length events.now) }
 {
+    let Piece { first, end, kept } = piece;
     let mut left = Vec::from_slice(alloc, &events[..first])?;
     for place in first..end {
         if events[place] == Event::Run(kept) {
@@ -143,26 +146,24 @@ fn has_others(events: &[Event], kept: u8) -> bool {
     false
 }
 
-/// Leaves out the events from one place up to another but for the runs of one processor, if the run fails without them.
+/// Leaves out a piece, if the run fails without it.
 fn drop_piece<B: Body, J: LineJudge<B>>(
     alloc: Global,
     bench: &mut Bench<'_, B, J>,
     run: &mut FailingRun,
-    first: usize,
-    end: usize,
-    kept: u8,
+    piece: Piece,
 ) -> Result<(), AllocError>
     requires failing { IsFailing B.meaning J.breaks bench.old run.old }
-    requires first { first ≤ end }
-    requires end { end ≤ length run.old.steps.items }
+    requires first { piece.first ≤ piece.end }
+    requires end { piece.end ≤ length run.old.steps.items }
     ensures same { bench.new ≡ bench.old }
     ensures failing { IsFailing B.meaning J.breaks bench.new run.new }
     ensures line { run.new.broken.line ≡ run.old.broken.line }
 {
-    if run.room == 0 || !has_others(&run.steps[first..end], kept) {
+    if run.room == 0 || !has_others(&run.steps[piece.first..piece.end], piece.kept) {
         return Ok(());
     }
-    let steps = thinned(alloc, &run.steps, first, end, kept)?;
+    let steps = thinned(alloc, &run.steps, piece)?;
     try_steps(alloc, bench, run, steps)?;
     Ok(())
 }
@@ -183,7 +184,12 @@ fn drop_pieces_of<B: Body, J: LineJudge<B>>(
     let stride = (size / 8).max(1);
     let mut end = run.steps.len();
     while end > 0 {
-        drop_piece(alloc, bench, run, end.saturating_sub(size), end, kept)?;
+        let piece = Piece {
+            first: end.saturating_sub(size),
+            end,
+            kept,
+        };
+        drop_piece(alloc, bench, run, piece)?;
         end = end.saturating_sub(stride).min(run.steps.len());
     }
     Ok(())
@@ -262,12 +268,12 @@ fn drop_event<B: Body, J: LineJudge<B>>(
 ) -> Result<bool, AllocError>
     requires failing { IsFailing B.meaning J.breaks bench.old run.old }
     requires place { place < length run.old.steps.items }
-    requires behind { NoneCanGo B.meaning J.breaks bench.old run.old (place + 1) dropped }
+    requires after { NoneCanGo B.meaning J.breaks bench.old run.old (place + 1) dropped }
     ensures same { bench.new ≡ bench.old }
     ensures failing { IsFailing B.meaning J.breaks bench.new run.new }
     ensures line { run.new.broken.line ≡ run.old.broken.line }
     ensures left { OnOk result (place ≤ length run.new.steps.items) }
-    ensures behind { IfOk result (NoneCanGo B.meaning J.breaks bench.new run.new place) }
+    ensures after { IfOk result (NoneCanGo B.meaning J.breaks bench.new run.new place) }
     ensures no_longer { OnOk result (length run.new.steps.items ≤ length run.old.steps.items) }
     ensures fewer { IfOk result (λ after. after ≡ true → dropped ≡ false
         → length run.new.steps.items < length run.old.steps.items) }
@@ -327,7 +333,7 @@ fn drop_until_none<B: Body, J: LineJudge<B>>(
 }
 
 /// The place after the last event of the same processor before the one at a place, if there is another event between.
-fn place_behind(events: &[Event], at: usize) -> Option<usize>
+fn place_after(events: &[Event], at: usize) -> Option<usize>
     requires { at < length events.now }
     ensures { IfSome result (λ to. to ≤ at) }
 {
@@ -355,7 +361,7 @@ fn gather_event<B: Body, J: LineJudge<B>>(
     ensures line { run.new.broken.line ≡ run.old.broken.line }
 {
     if run.room > 0 && at < run.steps.len() {
-        if let Some(to) = place_behind(&run.steps, at) {
+        if let Some(to) = place_after(&run.steps, at) {
             let steps = moved(alloc, &run.steps, at, to)?;
             try_steps(alloc, bench, run, steps)?;
         }

@@ -11,7 +11,7 @@ invariant-loop-place g l =
       place : l.place ≤ length l.run.steps.items;
       no_longer : length l.run.steps.items ≤ length l.fn.run.steps.items;
       fewer : l.dropped ≡ true → length l.run.steps.items < length l.fn.run.steps.items;
-      behind : NoneCanGo g.B.Body.meaning g.J.LineJudge.breaks l.bench l.run l.place l.dropped;
+      after : NoneCanGo g.B.Body.meaning g.J.LineJudge.breaks l.bench l.run l.place l.dropped;
     }
 
 abbrev pub decreases-loop-place : goal.decreases-loop-place
