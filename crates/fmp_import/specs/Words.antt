@@ -14,11 +14,11 @@ abbrev pub is_word : List ℕ → Bool
 is_word [] = false
 is_word (b ∷ bs) = base.is_letter b && list_all base.is_word bs
 
--- a byte of a word stands at a place
+-- a byte of a word stands at a position
 abbrev pub is_word_at : List ℕ → (at : ℕ) → Bool
 is_word_at text at = unwrap_or (option_map base.is_word (slice_get text at)) false
 
--- a byte of a word stands before a place
+-- a byte of a word stands before a position
 abbrev pub is_word_before : List ℕ → (at : ℕ) → Bool
 is_word_before text at = nat_lt 0 at && is_word_at text (at - 1)
 

@@ -57,8 +57,8 @@ fn is_word(byte: u8) -> bool {
     byte.is_ascii_alphanumeric() || byte == b'_' || byte >= 128
 }
 
-/// Where the space ends that begins at a place and is no ASCII: a no-break space, an ideographic one, or a byte order
-/// mark.
+/// Where the space ends that begins at a position and is no ASCII: a no-break space, an ideographic one, or a byte
+/// order mark.
 fn space_end(text: &[u8], at: usize) -> Option<usize>
     requires { at ≤ length text.now }
     ensures { IfSome result (λ end. (at < end) × (end ≤ length text.now)) }
@@ -70,7 +70,7 @@ fn space_end(text: &[u8], at: usize) -> Option<usize>
     }
 }
 
-/// Where the word ends that goes on at a place.
+/// Where the word ends that goes on at a position.
 pub fn word_end(text: &[u8], from: usize) -> usize
     requires { from ≤ length text.now }
     ensures from { from ≤ result }
@@ -84,7 +84,7 @@ pub fn word_end(text: &[u8], from: usize) -> usize
     text.len()
 }
 
-/// Where the line ends that goes on at a place. A `\` before its line feed joins the next line to it.
+/// Where the line ends that goes on at a position. A `\` before its line feed joins the next line to it.
 fn line_end(text: &[u8], from: usize) -> usize
     requires { from ≤ length text.now }
     ensures from { from ≤ result }
@@ -100,7 +100,7 @@ fn line_end(text: &[u8], from: usize) -> usize
     text.len()
 }
 
-/// Where the comment ends that goes on at a place: after its `*/`. None if it does not end.
+/// Where the comment ends that goes on at a position: after its `*/`. None if it does not end.
 fn comment_end(text: &[u8], from: usize) -> Option<usize>
     requires { from ≤ length text.now }
     ensures { IfSome result (λ end. (from ≤ end) × (end ≤ length text.now)) }
@@ -115,7 +115,7 @@ fn comment_end(text: &[u8], from: usize) -> Option<usize>
     None
 }
 
-/// Where what is quoted ends that goes on at a place: after the quote, or where its line ends. A `\` before its line
+/// Where what is quoted ends that goes on at a position: after the quote, or where its line ends. A `\` before its line
 /// feed joins the next line to it.
 fn quote_end(text: &[u8], from: usize, quote: u8) -> usize
     requires { from ≤ length text.now }
@@ -135,7 +135,7 @@ fn quote_end(text: &[u8], from: usize, quote: u8) -> usize
     text.len()
 }
 
-/// The comment whose `/*` stands before a place. One that does not end goes on up to the end of the text.
+/// The comment whose `/*` stands before a position. One that does not end goes on up to the end of the text.
 fn block_comment(text: &[u8], from: usize) -> TextPiece
     requires { from ≤ length text.now }
     ensures from { from ≤ result.end }
@@ -150,7 +150,7 @@ fn block_comment(text: &[u8], from: usize) -> TextPiece
     }
 }
 
-/// The comment whose `/` stands before a place, or that `/` where no comment begins there.
+/// The comment whose `/` stands before a position, or that `/` where no comment begins there.
 fn comment_or_sign(text: &[u8], next: usize) -> TextPiece
     requires { next ≤ length text.now }
     ensures next { next ≤ result.end }
@@ -173,7 +173,7 @@ fn comment_or_sign(text: &[u8], next: usize) -> TextPiece
     }
 }
 
-/// Where the line goes on after a `\` before a place: after the line feed, if the line ends there.
+/// Where the line goes on after a `\` before a position: after the line feed, if the line ends there.
 fn joined_end(text: &[u8], next: usize) -> usize
     requires { next ≤ length text.now }
     ensures from { next ≤ result }
@@ -186,7 +186,7 @@ fn joined_end(text: &[u8], next: usize) -> usize
     }
 }
 
-/// Where the part of a line of the preprocessor ends that begins at a place: a byte, a comment, what is quoted, or a
+/// Where the part of a line of the preprocessor ends that begins at a position: a byte, a comment, what is quoted, or a
 /// `\` with the line feed after it. None where the line ends: at its line feed, and at a comment that does not end.
 fn directive_part_end(text: &[u8], at: usize) -> Option<usize>
     requires { at < length text.now }
@@ -209,7 +209,7 @@ fn directive_part_end(text: &[u8], at: usize) -> Option<usize>
     }
 }
 
-/// Where the line of the preprocessor ends that goes on at a place. A comment in it may go on over lines.
+/// Where the line of the preprocessor ends that goes on at a position. A comment in it may go on over lines.
 fn directive_end(text: &[u8], from: usize) -> usize
     requires { from ≤ length text.now }
     ensures from { from ≤ result }
@@ -225,7 +225,7 @@ fn directive_end(text: &[u8], from: usize) -> usize
     at
 }
 
-/// The `<<` or `>>` whose first byte stands before a place, or that byte where it stands alone.
+/// The `<<` or `>>` whose first byte stands before a position, or that byte where it stands alone.
 fn shift_or_sign(text: &[u8], next: usize, byte: u8) -> TextPiece
     requires { next ≤ length text.now }
     ensures next { next ≤ result.end }
@@ -243,12 +243,12 @@ fn shift_or_sign(text: &[u8], next: usize, byte: u8) -> TextPiece
     }
 }
 
-/// Whether a line ends at a place.
+/// Whether a line ends at a position.
 fn is_line_end(text: &[u8], at: usize) -> bool {
     matches!(text.get(at), Some(b'\r' | b'\n'))
 }
 
-/// The word or the space whose first byte stands before a place.
+/// The word or the space whose first byte stands before a position.
 fn word_or_space(text: &[u8], next: usize, byte: u8) -> TextPiece
     requires from { 0 < next }
     requires within { next ≤ length text.now }
@@ -264,7 +264,7 @@ fn word_or_space(text: &[u8], next: usize, byte: u8) -> TextPiece
     }
 }
 
-/// The piece that begins at a place.
+/// The piece that begins at a position.
 fn piece_at(text: &[u8], at: usize) -> TextPiece
     requires { at < length text.now }
     ensures more { at < result.end }

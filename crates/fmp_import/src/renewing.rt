@@ -5,7 +5,7 @@ use crate::plan::TextSpan;
 use fmp_base::Name;
 use std::alloc::{AllocError, Global};
 
-/// The lines that define a name again, up to a place of the text.
+/// The lines that define a name again, up to a position of the text.
 #[derive(Drop)]
 pub struct Renewals {
     /// How many constants are known beforehand: those count before all lines.

@@ -39,7 +39,7 @@ fn is_word(bytes: &[u8]) -> bool
     }
 }
 
-/// Whether a byte of a word stands at a place.
+/// Whether a byte of a word stands at a position.
 fn is_word_at(text: &[u8], at: usize) -> bool
     ensures { result ≡ spec.is_word_at text.now at }
 {
@@ -49,7 +49,7 @@ fn is_word_at(text: &[u8], at: usize) -> bool
     }
 }
 
-/// Whether a byte of a word stands before a place.
+/// Whether a byte of a word stands before a position.
 fn is_word_before(text: &[u8], at: usize) -> bool
     ensures { result ≡ spec.is_word_before text.now at }
 {
