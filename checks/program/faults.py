@@ -41,6 +41,7 @@ SEPARATED = "; tokens are separated by spaces, tabs and line ends"
 BRACES = "; the statements of `if`, `else` and `while` stand in braces"
 OF_FMP3 = "`fmp_view import` reads configurations of FMP3"
 DECLARED = "; `var` at the head of the body declares one"
+RESERVED = "; this word is reserved in both texts"
 FLAG = "made of `TA_TPRI`, `TA_WMUL` and `TA_CLR`, 0 to 7"
 
 # A configuration; the line, the column and the bytes that are marked; the code; the sentence.
@@ -79,7 +80,12 @@ CONFIGURATIONS = [
     (ONE + "CRE_SEM(S, { 0, 0, 1, 1 }); }", 1, 48, 1, "B1",
      "expected `}` after the last value of `CRE_SEM`, found `,`"),
     (ONE + "CRE_SEM(put, { 0, 0, 1 }); }", 1, 36, 3, "B1",
-     "expected a name for a semaphore, found the service call `put`"),
+     "expected a name for a semaphore, found the service call `put`" + RESERVED),
+    (ONE + "CRE_SEM(task, { 0, 0, 1 }); }", 1, 36, 4, "B1", "expected a name for a semaphore, found `task`" + RESERVED),
+    (ONE + "CRE_TSK(if, { 0, 0, m, 1, 64, NULL }); }", 1, 36, 2, "B1",
+     "expected a name for a task, found `if`" + RESERVED),
+    (ONE + "CRE_TSK(T, { 0, 0, NULL, 1, 64, NULL }); }", 1, 47, 4, "B1",
+     "expected the name of a body, the entry of `CRE_TSK`, found `NULL`" + RESERVED),
     (ONE + "CRE_SEM(S, 0, 0, 1); }", 1, 39, 1, "B1",
      "expected `{`, found the number 0; the values of a static API stand in braces"),
     (ONE + "CRE_SEM(\"S\", { 0, 0, 1 }); }", 1, 36, 1, "B1",
@@ -128,11 +134,20 @@ CONFIGURATIONS = [
     ("NUM_PRC(2); CLASS(TCL_1) {\nCRE_SEM(S, { 0, 0, 1 }); }\nCLASS(TCL_2) {\nCRE_FLG(S, { 0, 0 }); }", 4, 9, 1, "B2",
      "`S` is the name of an object already, at line 2"),
     (ONE + "\nCRE_SEM(S, { TA_FIFO, 0, 1 }); }", 2, 14, 7, "B3",
-     "`TA_FIFO` is not a constant: the attribute of `CRE_SEM` is a value; did you mean `TA_TFIFO`?"),
+     "`TA_FIFO` is not a constant; the attribute of `CRE_SEM` must be `TA_TFIFO` or `TA_TPRI`; "
+     "did you mean `TA_TFIFO`?"),
     (ONE + "CRE_TSK(T, { TA_RSTR, 0, m, 1, 64, NULL }); }", 1, 41, 7, "B3",
-     "`TA_RSTR` is not a constant: the attribute of `CRE_TSK` is a value"),
+     "`TA_RSTR` is not a constant; the attribute of `CRE_TSK` must be 0 or `TA_ACT`"),
     (ONE + "CRE_TSK(T, { TA_ACTT, 0, m, 1, 64, NULL }); }", 1, 41, 7, "B3",
-     "`TA_ACTT` is not a constant: the attribute of `CRE_TSK` is a value; did you mean `TA_ACT`?"),
+     "`TA_ACTT` is not a constant; the attribute of `CRE_TSK` must be 0 or `TA_ACT`; did you mean `TA_ACT`?"),
+    (ONE + "CRE_TSK(T, { TA_ACT | TA_FPU, 0, m, 1, 64, NULL }); }", 1, 50, 6, "B3",
+     "`TA_FPU` is not a constant; the attribute of `CRE_TSK` must be 0 or `TA_ACT`"),
+    (ONE + "CRE_CYC(C, { TA_STA | TA_PHS, 0, h, 1, 0 }); }", 1, 50, 6, "B3",
+     "`TA_PHS` is not a constant; the attribute of `CRE_CYC` must be 0 or `TA_STA`"),
+    (ONE + "CRE_SEM(S, { TA_CEILING, 0, 1 }); }", 1, 41, 10, "B3",
+     "`TA_CEILING` is not a constant; the attribute of `CRE_SEM` must be `TA_TFIFO` or `TA_TPRI`"),
+    (ONE + "CRE_SPN(L, { TA_CEILING }); }", 1, 41, 10, "B3",
+     "`TA_CEILING` is not a constant; the attribute of `CRE_SPN` must be 0"),
     (ONE + "CRE_TSK(T, { 0, 0, m, MAIN_PRIORITY, 64, NULL }); }", 1, 50, 13, "B3",
      "`MAIN_PRIORITY` is not a constant, and none can be defined: the priority of `CRE_TSK` is a number"),
     (ONE + "DEF_INH(INTNO_UART, { 0, h }); }", 1, 36, 10, "B3",
@@ -339,7 +354,8 @@ SOURCES = [
      "expected `;`, found `=`; a variable is 0 at first, and a statement gives it another value"),
     ("task m { rcv_dtq(1, 2); }", 1, 21, 1, "B1",
      "expected `&` and a variable, the out place of `rcv_dtq`, found the number 2"),
-    ("task m { var put; }", 1, 14, 3, "B1", "expected the name of a variable, found the service call `put`"),
+    ("task m { var put; }", 1, 14, 3, "B1", "expected the name of a variable, found the service call `put`" + RESERVED),
+    ("task put { }", 1, 6, 3, "B1", "expected the name of a body, found the service call `put`" + RESERVED),
     ("put(1);", 1, 1, 3, "B1", "expected `task` or `handler`, found the service call `put`"),
     ("\ufefftask m { }", 1, 1, 1, "B1", "a byte order mark stands here; save the text without it"),
     ("task m { put(1);\u00a0}", 1, 17, 1, "B1", "a no-break space stands here" + SEPARATED),

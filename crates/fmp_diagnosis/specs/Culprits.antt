@@ -1,4 +1,4 @@
--- Where a fault is shown: at its place, or at the tokens beside it that are to be changed.
+-- Where a fault is shown: at its position, or at the tokens beside it that are to be changed.
 use Rattle.std.specs.Prelude.{◌≡◌, ℕ, ◌+◌, ◌-◌, ◌==◌, ◌&&◌, ◌||◌, if◌then◌else◌, nat_le, Bool, true, false, not, List}
 use Rattle.std.specs.Prelude.{length, max, min, option_map, position, slice_get, slice_range, Option, Some, None}
 use Rattle.std.specs.Char.{is_ascii_alphanumeric}
@@ -29,8 +29,8 @@ joined (Some from) None = None
 joined None to = None
 
 -- after the last byte of a token
-abbrev pub behind : TokenPosition → TokenPosition
-behind p = record { line = p.line; start = p.end; end = p.end }
+abbrev pub after : TokenPosition → TokenPosition
+after p = record { line = p.line; start = p.end; end = p.end }
 
 -- neither a letter, a digit nor `_`
 abbrev pub ends_word : ℕ → Bool
@@ -40,18 +40,18 @@ ends_word b = not (is_ascii_alphanumeric b || (b == 95))
 abbrev pub word_length : List ℕ → ℕ
 word_length bytes = unwrap_or (position (λ b. ends_word b) bytes) (length bytes)
 
--- from a place on, up to the end of the word or the number that begins there
+-- from a position on, up to the end of the word or the number that begins there
 abbrev pub whole : List ℕ → TokenPosition → TokenPosition
 whole text p =
     let rest = slice_range text (min p.start (length text)) (length text) in
     record { line = p.line; start = p.start; end = max p.end (min (p.start + word_length rest) 4294967295) }
 
--- where a fault is shown of which token i of a text is the place, if not there
+-- where a fault that stands at token i of a text is shown, if not there
 abbrev pub aimed : (text : List ℕ) → TokenPosition → List Token → (i : ℕ) → Aim → Option TokenPosition
 aimed text p ts i aim.Here = None
 aimed text p ts i aim.Whole = Some (whole text p)
 aimed text p ts i aim.Before = position_at ts (i - 1)
-aimed text p ts i aim.Behind = option_map behind (position_at ts (i - 1))
+aimed text p ts i aim.After = option_map after (position_at ts (i - 1))
 aimed text p ts i (aim.Tokens first last) = joined (position_at ts first) (position_at ts last)
 
 -- a fault that may stand at the word of a static API
@@ -73,16 +73,16 @@ is_of_word fault.Syntax = true
 is_of_word fault.Limit = true
 is_of_word _ = false
 
--- A fault of syntax is shown at its place, or at the token before it, or after that; one at the word of a static API
--- at its place or at later tokens; any other at its place. A word or a number that is no token is shown whole.
+-- A fault of syntax is shown at its position, or at the token before it, or after that; one at the word of a static API
+-- at its position or at later tokens; any other at its position. A word or a number that is no token is shown whole.
 abbrev pub fits : FaultKind → (i : ℕ) → Aim → Bool
 fits kind i aim.Here = true
 fits kind i aim.Whole = is_of_word kind
 fits kind i aim.Before = is_syntax kind
-fits kind i aim.Behind = is_syntax kind
+fits kind i aim.After = is_syntax kind
 fits kind i (aim.Tokens first last) = is_in_api kind && nat_le i first
 
--- where a fault of this kind at a place of a text is shown
+-- where a fault of this kind at a position of a text is shown
 pub record IsCulprit (text : List ℕ) (position : TokenPosition) (kind : FaultKind) (c : TokenPosition) : Type 0 where
   pub before : List Token
   pub tokens : List Token

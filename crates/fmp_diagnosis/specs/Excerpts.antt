@@ -1,11 +1,11 @@
--- The line of a text that holds a place, and how it is shown with marks under a token.
+-- The line of a text that holds a position, and how it is shown with marks under a token.
 use Rattle.std.specs.Prelude.{◌≡◌, ℕ, ◌+◌, ◌-◌, ◌<◌, ◌≤◌, ◌==◌, ◌&&◌, ◌||◌, nat_lt, nat_le, Bool, true, false, not}
 use Rattle.std.specs.Prelude.{if◌then◌else◌, List, [], ◌∷◌, ◌++◌, flat_map, length, map, max, min, replicate}
 use Rattle.std.specs.Prelude.{slice_index, slice_range}
 use Rattle.std.specs.List.{filter}
 use Rattle.fmp_diagnosis.specs.declared.excerpt.Excerpt.{Excerpt}
 
--- The line that holds the place `at`: from `begin` up to `finish`, between two line feeds or the ends of the text.
+-- The line that holds the position `at`: from `begin` up to `finish`, between two line feeds or the ends of the text.
 pub record IsLine (text : List ℕ) (at begin finish : ℕ) : Type 0 where
   pub from : begin ≤ at
   pub to : at ≤ finish
@@ -14,7 +14,7 @@ pub record IsLine (text : List ℕ) (at begin finish : ℕ) : Type 0 where
   pub first : 0 < begin → (slice_index text (begin - 1) == 10) ≡ true
   pub last : finish < length text → (slice_index text finish == 10) ≡ true
 
--- where the line ends without a carriage return after the place
+-- where the line ends without a carriage return after the position
 abbrev pub without_return : List ℕ → ℕ → ℕ → ℕ
 without_return text at finish =
     if nat_lt at finish && (slice_index text (finish - 1) == 13) then finish - 1 else finish
@@ -23,7 +23,7 @@ without_return text at finish =
 abbrev pub is_long : ℕ → ℕ → Bool
 is_long begin finish = nat_lt (begin + 100) finish
 
--- what is shown of it begins at most 47 bytes before the place, and has at most 94 bytes
+-- what is shown of it begins at most 47 bytes before the position, and has at most 94 bytes
 abbrev pub shown_from : ℕ → ℕ → ℕ → ℕ
 shown_from begin finish at = if is_long begin finish then max begin (at - 47) else begin
 
@@ -69,15 +69,15 @@ abbrev pub marks : List ℕ → ℕ → ℕ → ℕ → ℕ → ℕ → List ℕ
 marks text begin i j at end =
     blanks (dots (nat_lt begin i)) ++ blanks (slice_range text i at) ++ carets (slice_range text at (min end j))
 
--- The line of the place `at`, with marks under the token that stands there up to `end`. Its column is counted in bytes.
+-- The line of the position `at`, with marks under the token that stands there up to `end`. Its column counts bytes.
 pub record IsExcerpt (text : List ℕ) (at end : ℕ) (e : Excerpt) : Type 0 where
   pub begin : ℕ
-  pub behind : ℕ
-  pub line : IsLine text at begin behind
+  pub after : ℕ
+  pub line : IsLine text at begin after
   pub column : e.column ≡ at - begin + 1
   pub shows :
-      let finish = without_return text at behind in
+      let finish = without_return text at after in
       let i = shown_from begin finish at in e.line.items ≡ shown text begin finish i (shown_to begin finish i)
   pub marks :
-      let finish = without_return text at behind in
+      let finish = without_return text at after in
       let i = shown_from begin finish at in e.marks.items ≡ marks text begin i (shown_to begin finish i) at end

@@ -41,8 +41,8 @@ numbers line column = codes ":" ++ decimal line ++ codes ":" ++ decimal column +
 abbrev pub code_words : (code refusal : List ℕ) → List ℕ
 code_words code refusal = code ++ refusal ++ codes ": "
 
-abbrev pub head : (name : List ℕ) → (line column : ℕ) → (code refusal : List ℕ) → List ℕ
-head name line column code refusal = name ++ numbers line column ++ code_words code refusal
+abbrev pub head : (name : List ℕ) → FaultReport → List ℕ
+head name f = name ++ numbers f.line f.excerpt.column ++ code_words f.code.now f.refusal.now
 
 -- the first line of an image, which is no text, as it is shown: FMPI, and the picture of a control byte
 abbrev pub is_of_image : List ℕ → Bool
@@ -56,11 +56,11 @@ lines e =
 
 -- a finding of the text of a file of this name as it is printed: its head, its sentence, and the line that it stands in
 abbrev pub report : (name : List ℕ) → FaultReport → List ℕ
-report name f = head name f.line f.excerpt.column f.code.now f.refusal.now ++ f.sentence.items ++ lines f.excerpt
+report name f = head name f ++ f.sentence.items ++ lines f.excerpt
 
 -- the column after a token that begins at this column, from `at` up to `end`: at least one column is marked
-abbrev pub column_behind : (column at end : ℕ) → ℕ
-column_behind column at end = column + max (end - at) 1
+abbrev pub column_after : (column at end : ℕ) → ℕ
+column_after column at end = column + max (end - at) 1
 
 -- What is said of a fault of a text: where it is shown, its code, and some sentence.
 pub record IsFinding (text : List ℕ) (position : TokenPosition) (kind : FaultKind) (f : FaultReport) : Type 0 where
@@ -68,16 +68,16 @@ pub record IsFinding (text : List ℕ) (position : TokenPosition) (kind : FaultK
   pub is_culprit : IsCulprit text position kind culprit
   pub line : f.line ≡ culprit.line
   pub shows : IsExcerpt text (min culprit.start (length text)) culprit.end f.excerpt
-  pub end : f.end ≡ column_behind f.excerpt.column (min culprit.start (length text)) culprit.end
+  pub end : f.end ≡ column_after f.excerpt.column (min culprit.start (length text)) culprit.end
   pub code : f.code.now ≡ code kind
   pub refusal : f.refusal.now ≡ refusal kind
   pub said : 0 < length f.sentence.items
 
--- What is said of what is legal at a place of a text, but usually a mistake.
+-- What is said of what is legal at a position of a text, but usually a mistake.
 pub record IsWarning (text : List ℕ) (position : TokenPosition) (sentence : List ℕ) (f : FaultReport) : Type 0 where
   pub line : f.line ≡ position.line
   pub shows : IsExcerpt text (min position.start (length text)) position.end f.excerpt
-  pub end : f.end ≡ column_behind f.excerpt.column (min position.start (length text)) position.end
+  pub end : f.end ≡ column_after f.excerpt.column (min position.start (length text)) position.end
   pub code : f.code.now ≡ codes "warning"
   pub refusal : f.refusal.now ≡ []
   pub sentence_is : f.sentence.items ≡ sentence

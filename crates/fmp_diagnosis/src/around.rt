@@ -1,11 +1,11 @@
-//! The tokens of a text before a place, and those from it on.
+//! The tokens of a text before a position, and those from it on.
 ghost use Rattle.std.specs.Prelude.{◌≡◌, ◌-◌, ◌<◌, ◌^◌, length, min, option_map, slice_get, slice_range, IfOk, IfSome};
 ghost use Rattle.std.specs.List.{list_any};
 ghost use Rattle.fmp_diagnosis.specs.Culprits.{HasTokens};
 ghost use Rattle.fmp_diagnosis.specs.Tokens as spec;
 
 use fmp_base::Name;
-use fmp_lex::{Keyword, TokenKind, TokenList, TokenPosition, Tokens, tokens};
+use fmp_lex::{Keyword, TextFile, TokenKind, TokenList, TokenPosition, Tokens, tokens};
 use std::alloc::{AllocError, Global};
 
 /// The greatest number of bytes of a text that is cut into tokens.
@@ -21,10 +21,12 @@ pub fn list_of<'a>(alloc: Global, text: &'a [u8]) -> Result<TokenList<'a>, Alloc
     }
 }
 
-/// A text around a place at which a token begins or the text ends.
+/// One of the two texts around a position at which a token begins or the text ends.
 #[derive(Drop)]
 pub struct Around<'a> {
-    /// The bytes from the place on.
+    /// Which of the two.
+    pub file: TextFile,
+    /// The bytes from the position on.
     pub bytes: &'a [u8],
     /// The tokens before it.
     pub before: TokenList<'a>,
@@ -32,18 +34,21 @@ pub struct Around<'a> {
     pub rest: TokenList<'a>,
 }
 
-/// The text around a place.
+/// This text around a position.
 pub fn around_position<'a>(
     alloc: Global,
+    file: TextFile,
     text: &'a [u8],
     at: usize,
 ) -> Result<Around<'a>, AllocError>
-    ensures { IfOk result (λ around.
+    ensures file { IfOk result (λ around. around.file ≡ file) }
+    ensures before { IfOk result (λ around.
         HasTokens (slice_range text.now 0 (min at (length text.now))) around.before.tokens) }
 {
     let at = at.min(text.len());
     let bytes = &text[at..];
     Ok(Around {
+        file,
         bytes,
         before: list_of(alloc, &text[..at])?,
         rest: list_of(alloc, bytes)?,
@@ -51,32 +56,32 @@ pub fn around_position<'a>(
 }
 
 impl<'a> Around<'a> {
-    /// The token at the place.
+    /// The token at the position.
     pub fn here(&self) -> Option<TokenKind>
         ensures { result ≡ spec.kind_at self.now.rest.tokens 0 }
     {
         self.rest.tokens.kind(0)
     }
 
-    /// Whether the token before the place stands in the same line.
+    /// Whether the token before the position stands in the same line.
     pub fn is_in_line(&self) -> bool {
         self.last_position()
             .is_some_and(|position| position.line == self.before.end.line)
     }
 
-    /// Whether the token before the place ends there.
+    /// Whether the token before the position ends there.
     pub fn is_joined(&self) -> bool {
         self.last_position()
             .is_some_and(|position| position.end == self.before.end.start)
     }
 
-    /// Where the token before the place stands.
+    /// Where the token before the position stands.
     fn last_position(&self) -> Option<TokenPosition> {
         let at = self.before.tokens.len().checked_sub(1)?;
         self.before.tokens.position(at)
     }
 
-    /// The token this far before the place, 1 for the last one.
+    /// The token this far before the position, 1 for the last one.
     pub fn back(&self, count: usize) -> Option<TokenKind> {
         let at = self.before.tokens.len().checked_sub(count)?;
         self.before.tokens.kind(at)

@@ -1,4 +1,4 @@
-//! Where a fault is shown: at its place, or at the tokens beside it that are to be changed.
+//! Where a fault is shown: at its position, or at the tokens beside it that are to be changed.
 ghost use Rattle.std.specs.Prelude.{◌≡◌, true, length, option_map, slice_range, min, IfOk};
 ghost use Rattle.fmp_diagnosis.specs.Culprits as spec;
 ghost use Rattle.fmp_diagnosis.specs.Culprits.{HasTokens, IsCulprit};
@@ -16,14 +16,14 @@ use std::alloc::{AllocError, Global};
 /// Where a fault is shown.
 #[derive(Clone, Copy)]
 pub enum Aim {
-    /// At its place.
+    /// At its position.
     Here,
     /// There, up to the end of a word or a number that is no token.
     Whole,
-    /// At the token before its place.
+    /// At the token before its position.
     Before,
     /// After that token, where something is missing.
-    Behind,
+    After,
     /// From the first byte of one token of the text to the last byte of another; the first alone, if the other one
     /// stands in another line.
     Tokens(usize, usize),
@@ -47,8 +47,8 @@ fn joined(tokens: &Tokens<'_>, first: usize, last: usize) -> Option<TokenPositio
 }
 
 /// After the last byte of a token.
-fn behind(tokens: &Tokens<'_>, at: usize) -> Option<TokenPosition>
-    ensures { result ≡ option_map spec.behind (spec.position_at tokens.now at) }
+fn after(tokens: &Tokens<'_>, at: usize) -> Option<TokenPosition>
+    ensures { result ≡ option_map spec.after (spec.position_at tokens.now at) }
 {
     let position = tokens.position(at)?;
     Some(TokenPosition {
@@ -58,7 +58,7 @@ fn behind(tokens: &Tokens<'_>, at: usize) -> Option<TokenPosition>
     })
 }
 
-/// From a place of a text on, up to the end of the word or the number that begins there.
+/// From a position of a text on, up to the end of the word or the number that begins there.
 fn whole(text: &[u8], position: TokenPosition) -> TokenPosition
     ensures { result ≡ spec.whole text.now position }
 {
@@ -88,7 +88,7 @@ impl Aim {
             Aim::Here => None,
             Aim::Whole => Some(whole(text, here)),
             Aim::Before => tokens.position(at.saturating_sub(1)),
-            Aim::Behind => behind(tokens, at.saturating_sub(1)),
+            Aim::After => after(tokens, at.saturating_sub(1)),
             Aim::Tokens(first, last) => joined(tokens, first, last),
         }
     }
@@ -137,49 +137,43 @@ fn aim_in_api(around: &Around<'_>, kind: FaultKind) -> Aim
     }
 }
 
-/// Whether what stands at the place is no token.
+/// Whether what stands at the position is no token.
 fn is_no_token(around: &Around<'_>) -> bool {
     matches!(around.here(), Some(TokenKind::Bad(_)))
 }
 
 /// Where a fault of syntax is shown.
-fn aim_of_syntax(alloc: Global, file: TextFile, around: &Around<'_>) -> Result<Aim, AllocError>
+fn aim_of_syntax(alloc: Global, around: &Around<'_>) -> Result<Aim, AllocError>
     ensures { IfOk result (λ aim. spec.fits FaultKind.Syntax (length around.now.before.tokens) aim ≡ true) }
 {
     if is_no_token(around) {
         return Ok(Aim::Whole);
     }
-    if is_due_to_word_before(file, around) {
+    if is_due_to_word_before(around) {
         return Ok(Aim::Before);
     }
-    if wants_semicolon(alloc, file, around)? {
-        return Ok(Aim::Behind);
+    if wants_semicolon(alloc, around)? {
+        return Ok(Aim::After);
     }
     Ok(Aim::Here)
 }
 
 /// Where a fault of this kind is shown.
-fn aim_of(
-    alloc: Global,
-    file: TextFile,
-    around: &Around<'_>,
-    kind: FaultKind,
-) -> Result<Aim, AllocError>
+fn aim_of(alloc: Global, around: &Around<'_>, kind: FaultKind) -> Result<Aim, AllocError>
     ensures { IfOk result (λ aim. spec.fits kind (length around.now.before.tokens) aim ≡ true) }
 {
     match kind {
-        FaultKind::Syntax => aim_of_syntax(alloc, file, around),
+        FaultKind::Syntax => aim_of_syntax(alloc, around),
         FaultKind::Limit if is_no_token(around) => Ok(Aim::Whole),
         FaultKind::Limit | FaultKind::Shape => Ok(Aim::Here),
         _ => Ok(aim_in_api(around, kind)),
     }
 }
 
-/// Where a fault of this kind at a place of a text is shown, around which it was looked at.
+/// Where a fault of this kind at a position of a text is shown, around which it was looked at.
 pub(crate) fn culprit_around(
     alloc: Global,
     text: &[u8],
-    file: TextFile,
     around: &Around<'_>,
     position: TokenPosition,
     kind: FaultKind,
@@ -187,7 +181,7 @@ pub(crate) fn culprit_around(
     requires { HasTokens (slice_range text.now 0 (min position.start (length text.now))) around.now.before.tokens }
     ensures { IfOk result (IsCulprit text.now position kind) }
 {
-    match aim_of(alloc, file, around, kind)? {
+    match aim_of(alloc, around, kind)? {
         Aim::Here => {
             // The text has tokens, which are not looked at.
             a_text_has_one_cut();
@@ -202,7 +196,7 @@ pub(crate) fn culprit_around(
     }
 }
 
-/// Where a fault of this kind at a place of a text is shown. `AllocError` if memory runs out.
+/// Where a fault of this kind at a position of a text is shown. `AllocError` if memory runs out.
 pub fn culprit_of(
     alloc: Global,
     text: &[u8],
@@ -212,6 +206,6 @@ pub fn culprit_of(
 ) -> Result<TokenPosition, AllocError>
     ensures { IfOk result (IsCulprit text.now position kind) }
 {
-    let around = around_position(alloc, text, position.start as usize)?;
-    culprit_around(alloc, text, file, &around, position, kind)
+    let around = around_position(alloc, file, text, position.start as usize)?;
+    culprit_around(alloc, text, &around, position, kind)
 }

@@ -1,4 +1,4 @@
-//! The line of a text that holds a place, with marks under the token there.
+//! The line of a text that holds a position, with marks under the token there.
 ghost use Rattle.std.specs.Prelude.{◌≡◌, ℕ, ◌+◌, ◌-◌, ◌^◌, ◌<◌, ◌≤◌, ◌==◌, ◌++◌, nat_lt, true, false, IfOk, OnOk};
 ghost use Rattle.std.specs.Prelude.{flat_map, length, max, min, replicate, slice_index, slice_range};
 ghost use Rattle.std.specs.List.{filter};
@@ -19,7 +19,7 @@ pub struct Excerpt {
     pub marks: Vec<u8>,
 }
 
-/// Where the line begins that holds a place.
+/// Where the line begins that holds a position.
 fn line_begin(text: &[u8], at: usize) -> usize
     requires { at ≤ length text.now }
     ensures from { result ≤ at }
@@ -36,7 +36,7 @@ fn line_begin(text: &[u8], at: usize) -> usize
     0
 }
 
-/// Where the line ends that holds a place.
+/// Where the line ends that holds a position.
 fn line_finish(text: &[u8], at: usize) -> usize
     requires { at ≤ length text.now }
     ensures to { at ≤ result }
@@ -52,7 +52,7 @@ fn line_finish(text: &[u8], at: usize) -> usize
     text.len()
 }
 
-/// Where a line ends without a carriage return after the place.
+/// Where a line ends without a carriage return after the position.
 fn without_return(text: &[u8], at: usize, finish: usize) -> usize
     requires { finish ≤ length text.now }
     ensures { result ≡ spec.without_return text.now at finish }
@@ -179,24 +179,26 @@ fn append_line(bytes: &[u8], out: &mut Vec<u8>) -> Result<(), AllocError>
     Ok(())
 }
 
-/// The line from `begin` up to `finish` as it is shown from `from` up to `to`.
-fn shown(
-    alloc: Global,
-    text: &[u8],
+/// A line of a text, from `begin` up to `finish`, which is shown from `from` up to `to`.
+#[derive(Clone, Copy)]
+struct ShownLine {
     begin: usize,
     finish: usize,
     from: usize,
     to: usize,
-) -> Result<Vec<u8>, AllocError>
-    requires from { from ≤ to }
-    requires to { to ≤ length text.now }
-    ensures { IfOk result (λ v. v.items ≡ spec.shown text.now begin finish from to) }
+}
+
+/// What is shown of a line.
+fn shown(alloc: Global, text: &[u8], line: ShownLine) -> Result<Vec<u8>, AllocError>
+    requires from { line.from ≤ line.to }
+    requires to { line.to ≤ length text.now }
+    ensures { IfOk result (λ v. v.items ≡ spec.shown text.now line.begin line.finish line.from line.to) }
 {
-    let mut line = Vec::new(alloc);
-    append_dots(begin < from, &mut line)?;
-    append_line(&text[from..to], &mut line)?;
-    append_dots(to < finish, &mut line)?;
-    Ok(line)
+    let mut out = Vec::new(alloc);
+    append_dots(line.begin < line.from, &mut out)?;
+    append_line(&text[line.from..line.to], &mut out)?;
+    append_dots(line.to < line.finish, &mut out)?;
+    Ok(out)
 }
 
 /// How many characters begin in these bytes.
@@ -206,7 +208,7 @@ fn characters(bytes: &[u8]) -> usize
     bytes.iter().filter(|byte| begins_character(**byte)).count()
 }
 
-/// The bytes of a text from one place up to another one, none if that stands before it.
+/// The bytes of a text from one position up to another one, none if that stands before it.
 fn bytes_between(text: &[u8], from: usize, to: usize) -> &[u8]
     requires { to ≤ length text.now }
     ensures { result.now ≡ slice_range text.now from to }
@@ -214,29 +216,27 @@ fn bytes_between(text: &[u8], from: usize, to: usize) -> &[u8]
     if from < to { &text[from..to] } else { &[] }
 }
 
-/// What stands under the line that is shown from `from` up to `to`, for the token from `at` up to `end`.
+/// What stands under a line for the token from `at` up to `end`.
 fn marks(
     alloc: Global,
     text: &[u8],
-    begin: usize,
-    from: usize,
-    to: usize,
+    line: ShownLine,
     at: usize,
     end: usize,
 ) -> Result<Vec<u8>, AllocError>
-    requires from { from ≤ at }
+    requires from { line.from ≤ at }
     requires at { at ≤ length text.now }
-    requires to { to ≤ length text.now }
-    ensures { IfOk result (λ v. v.items ≡ spec.marks text.now begin from to at end) }
+    requires to { line.to ≤ length text.now }
+    ensures { IfOk result (λ v. v.items ≡ spec.marks text.now line.begin line.from line.to at end) }
 {
-    let mut line = Vec::new(alloc);
-    if begin < from {
-        append_blanks(b"...", &mut line)?;
+    let mut out = Vec::new(alloc);
+    if line.begin < line.from {
+        append_blanks(b"...", &mut out)?;
     }
-    append_blanks(&text[from..at], &mut line)?;
-    let token = bytes_between(text, at, end.min(to));
-    append_carets(characters(token).max(1), &mut line)?;
-    Ok(line)
+    append_blanks(&text[line.from..at], &mut out)?;
+    let token = bytes_between(text, at, end.min(line.to));
+    append_carets(characters(token).max(1), &mut out)?;
+    Ok(out)
 }
 
 /// The line of a text that holds the token from `at` up to `end`, with marks under the token. `AllocError` if memory
@@ -247,13 +247,19 @@ pub fn excerpt_at(alloc: Global, text: &[u8], at: usize, end: usize) -> Result<E
     ensures column { IfOk result (λ excerpt. excerpt.column ≤ 2 ^ 63) }
 {
     let begin = line_begin(text, at);
-    let behind = line_finish(text, at);
-    let finish = without_return(text, at, behind);
+    let after = line_finish(text, at);
+    let finish = without_return(text, at, after);
     let from = shown_from(begin, finish, at);
     let to = shown_to(begin, finish, from);
+    let line = ShownLine {
+        begin,
+        finish,
+        from,
+        to,
+    };
     Ok(Excerpt {
         column: at - begin + 1,
-        line: shown(alloc, text, begin, finish, from, to)?,
-        marks: marks(alloc, text, begin, from, to, at, end)?,
+        line: shown(alloc, text, line)?,
+        marks: marks(alloc, text, line, at, end)?,
     })
 }

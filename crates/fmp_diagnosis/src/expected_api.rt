@@ -37,7 +37,7 @@ fn last_head(tokens: &Tokens<'_>) -> Option<(ConstructHead, usize)> {
 }
 
 /// How many commas stand after a place.
-fn commas_behind(tokens: &Tokens<'_>, at: usize) -> usize {
+fn commas_after(tokens: &Tokens<'_>, at: usize) -> usize {
     let mut count = 0usize;
     for place in at..tokens.len() {
         if is_symbol(tokens, place, Symbol::Comma) {
@@ -48,7 +48,7 @@ fn commas_behind(tokens: &Tokens<'_>, at: usize) -> usize {
 }
 
 /// What is expected in a head of this many tokens: `NUM_PRC ( number ) ;`.
-fn behind_processors(count: usize) -> &'static str
+fn after_processors(count: usize) -> &'static str
     ensures { 0 < length result.now }
 {
     match count {
@@ -61,7 +61,7 @@ fn behind_processors(count: usize) -> &'static str
 }
 
 /// Likewise `CLASS ( name ) {`.
-fn behind_class(count: usize) -> &'static str
+fn after_class(count: usize) -> &'static str
     ensures { 0 < length result.now }
 {
     match count {
@@ -92,7 +92,7 @@ fn say_field(api: Api, field: usize, out: &mut Vec<u8>) -> Result<(), AllocError
 }
 
 /// What is expected after a field.
-fn say_behind_field(api: Api, field: usize, out: &mut Vec<u8>) -> Result<(), AllocError>
+fn say_after_field(api: Api, field: usize, out: &mut Vec<u8>) -> Result<(), AllocError>
     ensures { OnOk result (IsSaid out.old.items out.new.items) }
 {
     let next = field.saturating_add(1);
@@ -119,7 +119,7 @@ fn say_in_api(
 ) -> Result<(), AllocError>
     ensures { OnOk result (IsSaid out.old.items out.new.items) }
 {
-    let field = commas_behind(tokens, at);
+    let field = commas_after(tokens, at);
     match last {
         TokenKind::Api(_) => say_text("`(`", out),
         TokenKind::Symbol(Symbol::LeftParen) => say_field(api, 0, out),
@@ -130,7 +130,7 @@ fn say_in_api(
         TokenKind::Symbol(Symbol::RightBrace) => say_text("`)`", out),
         TokenKind::Symbol(Symbol::RightParen) => say_text("`;`", out),
         _ if field == 0 => say_text("`,`", out),
-        _ => say_behind_field(api, field, out),
+        _ => say_after_field(api, field, out),
     }
 }
 
@@ -176,10 +176,10 @@ pub fn say_expected(tokens: &Tokens<'_>, out: &mut Vec<u8>) -> Result<(), AllocE
     match last_head(tokens) {
         None => say_text("`NUM_PRC`", out),
         Some((ConstructHead::Processors, at)) => {
-            say_text(behind_processors(tokens.len().saturating_sub(at)), out)
+            say_text(after_processors(tokens.len().saturating_sub(at)), out)
         }
         Some((ConstructHead::Class, at)) => say_text(
-            behind_class(tokens.len().saturating_sub(at)),
+            after_class(tokens.len().saturating_sub(at)),
             out,
         ),
         Some((ConstructHead::Api(api), at)) => say_from_api(tokens, at, api, out),

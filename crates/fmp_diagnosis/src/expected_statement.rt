@@ -114,7 +114,7 @@ fn say_argument(service: Service, place: usize, out: &mut Vec<u8>) -> Result<(),
 }
 
 /// What is expected after an argument of a call.
-fn say_behind_argument(service: Service, place: usize, out: &mut Vec<u8>) -> Result<(), AllocError>
+fn say_after_argument(service: Service, place: usize, out: &mut Vec<u8>) -> Result<(), AllocError>
     ensures { OnOk result (IsSaid out.old.items out.new.items) }
 {
     let count = argument_count(service);
@@ -161,7 +161,7 @@ fn say_in_call(
             say_argument(service, nesting.commas, out)
         }
         _ if !ends_operand(last) => say_text(OPERAND, out),
-        _ if nesting.open == 1 => say_behind_argument(service, nesting.commas, out),
+        _ if nesting.open == 1 => say_after_argument(service, nesting.commas, out),
         _ if is_in_brackets(tokens, at) => say_text("an operator or `]`", out),
         _ => say_text("`)`", out),
     }
@@ -192,7 +192,7 @@ fn has_assign(tokens: &Tokens<'_>, begin: usize) -> bool {
 }
 
 /// What is expected after a name at the head of a statement, where no call is assigned to it.
-fn behind_name(tokens: &Tokens<'_>, begin: usize, last: TokenKind) -> &'static str
+fn after_name(tokens: &Tokens<'_>, begin: usize, last: TokenKind) -> &'static str
     ensures { 0 < length result.now }
 {
     match tokens.len().saturating_sub(begin) {
@@ -217,11 +217,11 @@ fn say_assignment(
     if let Some(TokenKind::Service(service)) = tokens.kind(source) {
         return say_in_call(tokens, source, service, last, out);
     }
-    say_text(behind_name(tokens, begin, last), out)
+    say_text(after_name(tokens, begin, last), out)
 }
 
 /// What must follow a keyword at the head of a statement that has this many tokens so far.
-fn behind_keyword(keyword: Keyword, count: usize) -> &'static str
+fn after_keyword(keyword: Keyword, count: usize) -> &'static str
     ensures { 0 < length result.now }
 {
     match (keyword, count) {
@@ -249,7 +249,7 @@ fn within_keyword(
     match (keyword, tokens.kind(second)) {
         (Keyword::If | Keyword::While, _) => in_condition(tokens, begin, last),
         (Keyword::Else, Some(_)) => in_condition(tokens, second, last),
-        _ => behind_keyword(keyword, tokens.len().saturating_sub(begin)),
+        _ => after_keyword(keyword, tokens.len().saturating_sub(begin)),
     }
 }
 

@@ -52,7 +52,7 @@ fn leads_letters(bytes: &[u8]) -> bool {
         .is_some_and(|byte| byte.is_ascii_alphabetic())
 }
 
-/// Whether the token before the place goes on there, and is a name or another word.
+/// Whether the token before the position goes on there, and is a name or another word.
 fn continues_word(around: &Around<'_>) -> bool {
     let is_word = !matches!(
         around.back(1),
@@ -71,7 +71,7 @@ fn look_alike(bytes: &[u8]) -> Option<&'static LookAlike> {
     None
 }
 
-/// Says what the byte above 127 at the place looks like: another character, or a part of a name.
+/// Says what the byte above 127 at the position looks like: another character, or a part of a name.
 pub fn say_foreign(around: &Around<'_>, first: u8, out: &mut Vec<u8>) -> Result<(), AllocError>
     ensures { OnOk result (IsSaid out.old.items out.new.items) }
 {

@@ -10,8 +10,8 @@ use fmp_base::Name;
 use fmp_lex::{Keyword, Symbol, TextFile, TokenKind, Tokens};
 use std::alloc::AllocError;
 
-/// What is written by habit in a place: how the words begin that say what is expected there, the beginnings of what is
-/// written instead, and what is said of that.
+/// What is written by habit at a position: how the words begin that say what is expected there, the beginnings of what
+/// is written instead, and what is said of that.
 struct Habit(&'static str, &'static [&'static str], &'static str);
 
 /// What is said of a first value in a declaration.
@@ -164,7 +164,7 @@ pub fn begins_with_one(bytes: &[u8], texts: &[&str]) -> bool {
     texts.iter().any(|text| bytes.starts_with(text.as_bytes()))
 }
 
-/// What is said of what is written by habit in a place of a text, after the words that say what is expected there;
+/// What is said of what is written by habit at a position of a text, after the words that say what is expected there;
 /// nothing of anything else.
 fn said_of_habit(file: TextFile, expected: &[u8], written: &[u8]) -> &'static str {
     let habits: &'static [Habit] = match file {
@@ -193,7 +193,7 @@ fn open_brace(tokens: &Tokens<'_>) -> Option<usize> {
     None
 }
 
-/// Whether the text ends at the place or goes on with the next class or body, where `}` was to come first.
+/// Whether the text ends at the position or goes on with the next class or body, where `}` was to come first.
 fn is_unclosed(around: &Around<'_>, expected: &[u8]) -> bool {
     expected.ends_with(b" or `}`")
         && matches!(
@@ -268,7 +268,7 @@ fn has_letters(name: &Name, letters: &[u8]) -> bool {
     name.as_bytes() == letters
 }
 
-/// What is said of an expression as of another language, by the token before the place and that at it; nothing of
+/// What is said of an expression as of another language, by the token before the position and that at it; nothing of
 /// anything else.
 fn said_of_expression(before: TokenKind, here: TokenKind, expected: &[u8]) -> &'static str {
     match (before, here) {
@@ -294,7 +294,7 @@ fn said_of_expression(before: TokenKind, here: TokenKind, expected: &[u8]) -> &'
     }
 }
 
-/// Whether the parenthesis before the place closes a type of C.
+/// Whether the parenthesis before the position closes a type of C.
 fn has_type_before(around: &Around<'_>) -> bool {
     match (around.back(3), around.back(2)) {
         (Some(TokenKind::Symbol(Symbol::LeftParen)), Some(TokenKind::Name(name))) => is_type(&name),
@@ -333,32 +333,49 @@ fn said_of_api(around: &Around<'_>, expected: &[u8]) -> &'static str {
     }
 }
 
-/// Whether a semicolon stands at the place, after a brace that closes a class or a body.
-fn is_semicolon_behind(around: &Around<'_>, expected: &[u8]) -> bool {
+/// Whether a semicolon stands at the position, after a brace that closes a class or a body.
+fn is_semicolon_after_brace(around: &Around<'_>, expected: &[u8]) -> bool {
     expected.ends_with(b"the end of the text")
         && around.here() == Some(TokenKind::Symbol(Symbol::Semicolon))
         && around.back(1) == Some(TokenKind::Symbol(Symbol::RightBrace))
 }
 
-/// What is said of what is written by habit at the place of a text, after the words that say what is expected there;
+/// Whether a reserved word stands at the position, where a name is expected.
+fn is_reserved(around: &Around<'_>, expected: &[u8]) -> bool {
+    let is_word = matches!(
+        around.here(),
+        Some(
+            TokenKind::Keyword(_)
+                | TokenKind::Constant(_)
+                | TokenKind::Api(_)
+                | TokenKind::Service(_),
+        )
+    );
+    is_word && begins_with_one(expected, &["a name for ", "the name of "])
+}
+
+/// What is said of what is written by habit at the position, after the words that say what is expected there;
 /// nothing of anything else.
-fn said_of_place(file: TextFile, around: &Around<'_>, expected: &[u8]) -> &'static str {
-    if is_semicolon_behind(around, expected) {
+fn said_at(around: &Around<'_>, expected: &[u8]) -> &'static str {
+    if is_semicolon_after_brace(around, expected) {
         return "; no `;` stands after this `}`";
     }
-    let said = match file {
+    if is_reserved(around, expected) {
+        return "; this word is reserved in both texts";
+    }
+    let said = match around.file {
         TextFile::Configuration => said_of_api(around, expected),
         TextFile::Source => said_of_statement(around, expected),
     };
     if said.is_empty() {
-        said_of_habit(file, expected, around.bytes)
+        said_of_habit(around.file, expected, around.bytes)
     } else {
         said
     }
 }
 
-/// Whether a statement or a brace stands at the place, after the end of a body.
-fn is_behind_body(around: &Around<'_>, expected: &[u8]) -> bool {
+/// Whether a statement or a brace stands at the position, after the end of a body.
+fn is_after_body(around: &Around<'_>, expected: &[u8]) -> bool {
     if !expected.starts_with(b"`task`, `handler` or") {
         return false;
     }
@@ -392,25 +409,20 @@ fn say_ended_body(tokens: &Tokens<'_>, out: &mut Vec<u8>) -> Result<(), AllocErr
     }
 }
 
-/// Says what stands in the place of what is written by habit at the place of a text, after the words that say what is
-/// expected there; or which brace is to be closed first, or where the body ended.
-pub fn say_habit(
-    file: TextFile,
-    around: &Around<'_>,
-    expected: &[u8],
-    out: &mut Vec<u8>,
-) -> Result<(), AllocError>
+/// Says what stands in the place of what is written by habit at the position, after the words that say what is expected
+/// there; or which brace is to be closed first, or where the body ended.
+pub fn say_habit(around: &Around<'_>, expected: &[u8], out: &mut Vec<u8>) -> Result<(), AllocError>
     ensures { OnOk result (MaySay out.old.items out.new.items) }
 {
     if is_unclosed(around, expected) {
         if let Some(at) = open_brace(&around.before.tokens) {
-            return say_open_brace(file, &around.before.tokens, at, out);
+            return say_open_brace(around.file, &around.before.tokens, at, out);
         }
     }
-    if is_behind_body(around, expected) {
+    if is_after_body(around, expected) {
         return say_ended_body(&around.before.tokens, out);
     }
-    say(&[Word::Text(said_of_place(file, around, expected))], out)
+    say(&[Word::Text(said_at(around, expected))], out)
 }
 
 /// How many names stand at the head of tokens, or `var` in the place of one.
@@ -424,7 +436,7 @@ fn names_at_head(tokens: &Tokens<'_>) -> usize {
     tokens.len()
 }
 
-/// Whether the place stands before, between or after the bodies of a task text.
+/// Whether the position stands before, between or after the bodies of a task text.
 fn is_between_bodies(around: &Around<'_>) -> bool {
     match around.back(1) {
         None => true,
@@ -433,12 +445,12 @@ fn is_between_bodies(around: &Around<'_>) -> bool {
     }
 }
 
-/// What is said of a declaration as of C that stands at the place of a text outside bodies.
-pub fn said_of_declaration(file: TextFile, around: &Around<'_>) -> Option<&'static str>
+/// What is said of a declaration as of C that stands at the position of a text outside bodies.
+pub fn said_of_declaration(around: &Around<'_>) -> Option<&'static str>
     ensures { IfSome result (λ text. 0 < length text.now) }
 {
     let names = names_at_head(&around.rest.tokens);
-    if file == TextFile::Configuration || names < 2 || !is_between_bodies(around) {
+    if around.file == TextFile::Configuration || names < 2 || !is_between_bodies(around) {
         return None;
     }
     match around.rest.tokens.kind(names) {

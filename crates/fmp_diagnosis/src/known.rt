@@ -1,4 +1,4 @@
-//! The names that are known at a place of the texts.
+//! The names that are known at a position of the texts.
 ghost use Rattle.std.specs.Prelude.{◌≡◌, slice_get, IfOk, OnOk};
 ghost use Rattle.std.specs.Option.{option_and_then};
 ghost use Rattle.fmp_base.specs.Names.{name_text};

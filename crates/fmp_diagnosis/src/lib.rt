@@ -26,6 +26,7 @@ mod sentence;
 mod steps;
 mod syntax;
 mod topics;
+mod twice;
 pub mod words;
 
 pub use culprit::culprit_of;
@@ -34,7 +35,7 @@ pub use explanations::explain;
 pub use known::name_meant;
 pub use names::processors;
 pub use nearness::nearest;
-pub use reports::{FaultReport, column_behind, finding_at};
-pub use sentence::{Texts, say_fault};
+pub use reports::{FaultReport, column_after, finding_at};
+pub use sentence::Texts;
 pub use steps::{StepFlaw, step_finding, step_warning};
 pub use topics::{TOPICS, Topic, every_topic_is_found, topic_asked, topic_named};

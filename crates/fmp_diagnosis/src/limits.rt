@@ -120,7 +120,7 @@ fn deepest(tokens: &Tokens<'_>, end: usize) -> usize {
     most
 }
 
-/// Says which limit the body passes whose first word stands at the place.
+/// Says which limit the body passes whose first word stands at the position.
 fn say_body(around: &Around<'_>, out: &mut Vec<u8>) -> Result<(), AllocError>
     ensures { OnOk result (IsSaid out.old.items out.new.items) }
 {
@@ -159,19 +159,14 @@ fn say_in_source(around: &Around<'_>, out: &mut Vec<u8>) -> Result<(), AllocErro
     }
 }
 
-/// Says which limit is exceeded at the place in a text of this many bytes.
-pub fn say_limit(
-    length: usize,
-    file: TextFile,
-    around: &Around<'_>,
-    out: &mut Vec<u8>,
-) -> Result<(), AllocError>
+/// Says which limit is exceeded at the position in a text of this many bytes.
+pub fn say_limit(length: usize, around: &Around<'_>, out: &mut Vec<u8>) -> Result<(), AllocError>
     ensures { OnOk result (IsSaid out.old.items out.new.items) }
 {
     if length > TEXT_MAX {
         return say_long_text(length, out);
     }
-    match (around.here(), file) {
+    match (around.here(), around.file) {
         (Some(TokenKind::Bad(_)), _) => say_too_great(around.bytes, out),
         (_, TextFile::Configuration) => say_in_configuration(around, out),
         (_, TextFile::Source) => say_in_source(around, out),

@@ -1,145 +1,23 @@
-//! Sentences on a name that is used twice, and on one that nothing has.
+//! Sentences on a name that nothing has, and on one of the wrong shape.
 ghost use Rattle.std.specs.Prelude.{◌<◌, length, OnOk};
 ghost use Rattle.fmp_diagnosis.specs.Words.{IsSaid, IsSaidFirst, MaySay, quoted};
 ghost use Rattle.fmp_base.specs.Names.{name_text};
 
-use crate::apis::{api_at, entry_of, is_symbol, object_name, unknown_constant};
-use crate::around::{Around, is_same, last_body, line_of, list_of, name_at};
-use crate::fields::{Field, object_of};
+use crate::apis::{api_at, entry_of, is_symbol, unknown_constant};
+use crate::around::{Around, list_of, name_at};
+use crate::fields::{Field, attributes_of, object_of};
 use crate::known::{
     attributes, bodies, constants, name_meant, objects, say_nearest, say_unknown_of, variables,
 };
+use crate::sentence::Texts;
+use crate::twice::{line_after, place_of_object};
 use crate::words::{Word, ask_whether, say, say_of, say_text};
 use fmp_base::Name;
 use fmp_lex::{Api, Keyword, Symbol, TextFile, TokenKind, Tokens};
 use std::alloc::{AllocError, Global};
 
-/// The sentence if no name is found that is used twice.
-const TWICE: &str = "a name is used twice";
-
 /// The sentence if no name is found that nothing has.
 const UNKNOWN: &str = "nothing has this name";
-
-/// Where the first object of this name is made.
-fn place_of_object(tokens: &Tokens<'_>, name: &Name) -> Option<usize> {
-    for at in 0..tokens.len() {
-        if let Some(one) = object_name(tokens, at) {
-            if is_same(&one, name) {
-                return Some(at);
-            }
-        }
-    }
-    None
-}
-
-/// The line in which the first object of this name is made.
-fn line_of_object(tokens: &Tokens<'_>, name: &Name) -> Option<u32> {
-    line_of(tokens, place_of_object(tokens, name)?)
-}
-
-/// The static API that makes the first object of this name.
-fn maker_of(tokens: &Tokens<'_>, name: &Name) -> Option<Api> {
-    api_at(tokens, place_of_object(tokens, name)?)
-}
-
-/// Whether this name stands at a place.
-fn has_name(tokens: &Tokens<'_>, at: usize, name: &Name) -> bool {
-    match name_at(tokens, at) {
-        Some(one) => is_same(&one, name),
-        None => false,
-    }
-}
-
-/// Where this name stands after a keyword for the first time from a place on, by its line.
-fn line_behind(tokens: &Tokens<'_>, from: usize, name: &Name, keywords: &[Keyword]) -> Option<u32> {
-    for at in from..tokens.len() {
-        if let Some(TokenKind::Keyword(keyword)) = tokens.kind(at) {
-            if keywords.contains(&keyword) && has_name(tokens, at.saturating_add(1), name) {
-                return line_of(tokens, at);
-            }
-        }
-    }
-    None
-}
-
-/// Says that a name is used before, as what, and at which line if one is known.
-fn say_used(
-    name: Name,
-    what: &'static str,
-    line: Option<u32>,
-    out: &mut Vec<u8>,
-) -> Result<(), AllocError>
-    ensures said { OnOk result (IsSaid out.old.items out.new.items) }
-    ensures names { OnOk result (IsSaidFirst (quoted (name_text name)) out.old.items out.new.items) }
-{
-    let is = Word::Text(" is the name of ");
-    let what = Word::Text(what);
-    match line {
-        Some(line) => {
-            let line = Word::Number(i64::from(line));
-            say_of(&name, &[is, what, Word::Text(", at line "), line], out)
-        }
-        None => say_of(&name, &[is, what], out),
-    }
-}
-
-/// Where a configuration makes the first object of this name, by its line.
-fn line_in(alloc: Global, cfg: &[u8], name: &Name) -> Result<Option<u32>, AllocError> {
-    let list = list_of(alloc, cfg)?;
-    Ok(line_of_object(&list.tokens, name))
-}
-
-/// The sentence on a name of a task text that is used twice.
-fn say_twice_in_source(
-    alloc: Global,
-    cfg: &[u8],
-    around: &Around<'_>,
-    name: Name,
-    out: &mut Vec<u8>,
-) -> Result<(), AllocError>
-    ensures said { OnOk result (IsSaid out.old.items out.new.items) }
-    ensures names { OnOk result (IsSaidFirst (quoted (name_text name)) out.old.items out.new.items) }
-{
-    let before = &around.before.tokens;
-    if around.back(1) != Some(TokenKind::Keyword(Keyword::Var)) {
-        let line = line_behind(before, 0, &name, &[Keyword::Task, Keyword::Handler]);
-        return say_used(name, "a body already", line, out);
-    }
-    if name.as_bytes() == b"exinf".as_slice() {
-        return say_used(name, "the first variable of each body", None, out);
-    }
-    let declared = line_behind(before, last_body(before), &name, &[Keyword::Var]);
-    if declared.is_some() {
-        return say_used(name, "a variable of this body already", declared, out);
-    }
-    let line = line_in(alloc, cfg, &name)?;
-    say_used(name, "an object of the configuration", line, out)
-}
-
-/// Says where the name at the place is used before.
-pub fn say_twice(
-    alloc: Global,
-    cfg: &[u8],
-    file: TextFile,
-    around: &Around<'_>,
-    out: &mut Vec<u8>,
-) -> Result<(), AllocError>
-    ensures { OnOk result (IsSaid out.old.items out.new.items) }
-{
-    if file == TextFile::Configuration {
-        return match object_name(&around.rest.tokens, 0) {
-            Some(name) => {
-                let line = line_of_object(&around.before.tokens, &name);
-                say_used(name, "an object already", line, out)
-            }
-            None => say_text(TWICE, out),
-        };
-    }
-    match name_at(&around.rest.tokens, 0) {
-        Some(name) => say_twice_in_source(alloc, cfg, around, name, out),
-        None => say_text(TWICE, out),
-    }
-}
 
 /// How many processors the configuration has, by its first number.
 pub fn processors(tokens: &Tokens<'_>) -> i32 {
@@ -185,6 +63,26 @@ fn say_class(around: &Around<'_>, name: Name, out: &mut Vec<u8>) -> Result<(), A
     )
 }
 
+/// Says that a name in the attribute of an API is no constant, and which attributes there are.
+fn say_unknown_attribute(
+    alloc: Global,
+    api: Api,
+    name: Name,
+    out: &mut Vec<u8>,
+) -> Result<(), AllocError>
+    ensures said { OnOk result (IsSaid out.old.items out.new.items) }
+    ensures names { OnOk result (IsSaidFirst (quoted (name_text name)) out.old.items out.new.items) }
+{
+    let words = [
+        Word::Text(" is not a constant; the attribute of "),
+        Word::Quoted(api.name()),
+        Word::Text(" must be "),
+        Word::Text(attributes_of(api)),
+    ];
+    let known = attributes(alloc, api)?;
+    say_unknown_of(alloc, &name, &words, &known, out)
+}
+
 /// Says that a name in a value of an API is no constant.
 fn say_unknown_constant(
     alloc: Global,
@@ -196,26 +94,17 @@ fn say_unknown_constant(
     ensures said { OnOk result (IsSaid out.old.items out.new.items) }
     ensures names { OnOk result (IsSaidFirst (quoted (name_text name)) out.old.items out.new.items) }
 {
-    let (none, value) = if field == Field::Attribute {
-        (" is not a constant: ", " is a value")
-    } else {
-        (
-            " is not a constant, and none can be defined: ",
-            " is a number",
-        )
-    };
+    if field == Field::Attribute {
+        return say_unknown_attribute(alloc, api, name, out);
+    }
     let words = [
-        Word::Text(none),
+        Word::Text(" is not a constant, and none can be defined: "),
         Word::The(field.called()),
         Word::Text(" of "),
         Word::Quoted(api.name()),
-        Word::Text(value),
+        Word::Text(" is a number"),
     ];
-    let known = if field == Field::Attribute {
-        attributes(alloc, api)?
-    } else {
-        constants(alloc)?
-    };
+    let known = constants(alloc)?;
     say_unknown_of(alloc, &name, &words, &known, out)
 }
 
@@ -243,7 +132,7 @@ fn say_unknown_entry(
     say_nearest(alloc, &name, &known, out)
 }
 
-/// Says which name of the API at the place nothing has.
+/// Says which name of the API at the position nothing has.
 fn say_unknown_in_api(
     alloc: Global,
     src: &[u8],
@@ -262,7 +151,7 @@ fn say_unknown_in_api(
     }
 }
 
-/// Whether an assignment to an element begins at the place.
+/// Whether an assignment to an element begins at the position.
 fn begins_element(around: &Around<'_>) -> bool {
     let begins = matches!(
         around.back(1),
@@ -271,7 +160,7 @@ fn begins_element(around: &Around<'_>) -> bool {
     begins && is_symbol(&around.rest.tokens, 1, Symbol::LeftBracket)
 }
 
-/// Whether the name at the place is to be written: before `=`, with or without an index, or after the `&` of an out
+/// Whether the name at the position is to be written: before `=`, with or without an index, or after the `&` of an out
 /// place.
 fn is_written(around: &Around<'_>) -> bool {
     if is_symbol(&around.rest.tokens, 1, Symbol::Assign) || begins_element(around) {
@@ -282,6 +171,11 @@ fn is_written(around: &Around<'_>) -> bool {
         Some(TokenKind::Symbol(Symbol::LeftParen | Symbol::Comma))
     );
     is_out && around.back(1) == Some(TokenKind::Symbol(Symbol::And))
+}
+
+/// The static API that makes the first object of this name.
+fn maker_of(tokens: &Tokens<'_>, name: &Name) -> Option<Api> {
+    api_at(tokens, place_of_object(tokens, name)?)
 }
 
 /// Says that a name which is written is an object that this static API makes.
@@ -328,11 +222,11 @@ fn say_written(
 /// Whether a body has this name.
 fn is_body(around: &Around<'_>, name: &Name) -> bool {
     let keywords = [Keyword::Task, Keyword::Handler];
-    line_behind(&around.before.tokens, 0, name, &keywords).is_some()
-        || line_behind(&around.rest.tokens, 0, name, &keywords).is_some()
+    line_after(&around.before.tokens, 0, name, &keywords).is_some()
+        || line_after(&around.rest.tokens, 0, name, &keywords).is_some()
 }
 
-/// The names that can be read at the place: variables, objects and constants.
+/// The names that can be read at the position: variables, objects and constants.
 fn readable(alloc: Global, cfg: &Tokens<'_>, around: &Around<'_>) -> Result<Vec<Name>, AllocError> {
     let mut known = variables(alloc, &around.before.tokens)?;
     let objects = objects(alloc, cfg)?;
@@ -434,7 +328,7 @@ fn say_unknown_in_source(
     }
 }
 
-/// Whether the name at the place is to get the answer of a call.
+/// Whether the name at the position is to get the answer of a call.
 fn gets_answer(around: &Around<'_>) -> bool {
     let tokens = &around.rest.tokens;
     is_symbol(tokens, 1, Symbol::Assign) && matches!(tokens.kind(2), Some(TokenKind::Service(_)))
@@ -456,7 +350,7 @@ fn shape(around: &Around<'_>) -> &'static str
     }
 }
 
-/// Says what is wrong with the shape of the name at the place.
+/// Says what is wrong with the shape of the name at the position.
 pub fn say_shape(around: &Around<'_>, out: &mut Vec<u8>) -> Result<(), AllocError>
     ensures { OnOk result (IsSaid out.old.items out.new.items) }
 {
@@ -469,12 +363,10 @@ pub fn say_shape(around: &Around<'_>, out: &mut Vec<u8>) -> Result<(), AllocErro
     }
 }
 
-/// Says which name at the place nothing has.
+/// Says which name at the position nothing has.
 pub fn say_unknown(
     alloc: Global,
-    cfg: &[u8],
-    src: &[u8],
-    file: TextFile,
+    texts: Texts<'_>,
     around: &Around<'_>,
     out: &mut Vec<u8>,
 ) -> Result<(), AllocError>
@@ -482,11 +374,13 @@ pub fn say_unknown(
 {
     let tokens = &around.rest.tokens;
     if let Some(api) = api_at(tokens, 0) {
-        return say_unknown_in_api(alloc, src, tokens, api, out);
+        return say_unknown_in_api(alloc, texts.src, tokens, api, out);
     }
-    match (name_at(tokens, 0), file) {
+    match (name_at(tokens, 0), around.file) {
         (Some(name), TextFile::Configuration) => say_class(around, name, out),
-        (Some(name), TextFile::Source) => say_unknown_in_source(alloc, cfg, around, name, out),
+        (Some(name), TextFile::Source) => {
+            say_unknown_in_source(alloc, texts.cfg, around, name, out)
+        }
         (None, _) => say_text(UNKNOWN, out),
     }
 }

@@ -150,7 +150,7 @@ fn say_taken(around: &Around<'_>, out: &mut Vec<u8>) -> Result<(), AllocError>
     )
 }
 
-/// Says which value the API at the place refuses with a code.
+/// Says which value the API at the position refuses with a code.
 pub fn say_refusal(around: &Around<'_>, code: Er, out: &mut Vec<u8>) -> Result<(), AllocError>
     ensures { OnOk result (IsSaid out.old.items out.new.items) }
 {
@@ -173,7 +173,7 @@ pub fn say_refusal(around: &Around<'_>, code: Er, out: &mut Vec<u8>) -> Result<(
     }
 }
 
-/// Says that the entry of the API at the place is a body of the other kind.
+/// Says that the entry of the API at the position is a body of the other kind.
 pub fn say_wrong_kind(around: &Around<'_>, out: &mut Vec<u8>) -> Result<(), AllocError>
     ensures { OnOk result (IsSaid out.old.items out.new.items) }
 {
@@ -224,7 +224,7 @@ fn say_need(
     }
 }
 
-/// Says how many bytes the stack of the task at the place has.
+/// Says how many bytes the stack of the task at the position has.
 fn say_stack(tokens: &Tokens<'_>, out: &mut Vec<u8>) -> Result<(), AllocError>
     ensures { OnOk result (IsSaid out.old.items out.new.items) }
 {
@@ -239,7 +239,7 @@ fn say_stack(tokens: &Tokens<'_>, out: &mut Vec<u8>) -> Result<(), AllocError>
     )
 }
 
-/// Says that the stack of the task at the place is too small for its body.
+/// Says that the stack of the task at the position is too small for its body.
 pub fn say_small_stack(
     alloc: Global,
     texts: Texts<'_>,

@@ -1,21 +1,15 @@
 //! What is said of a fault of a text: where it stands, its code, a sentence, and its line with marks.
-ghost use Rattle.std.specs.Prelude.{◌≡◌, ◌++◌, ◌+◌, ◌-◌, ◌^◌, ◌<◌, ◌≤◌, length, IfOk, OnOk, decimal};
+ghost use Rattle.std.specs.Prelude.{◌≡◌, ◌++◌, ◌+◌, ◌-◌, ◌^◌, ◌<◌, ◌≤◌, length, IfOk, OnOk};
 ghost use Rattle.fmp_diagnosis.specs.Reports as spec;
 ghost use Rattle.fmp_diagnosis.specs.Reports.{IsFinding};
 
 use crate::around::{Around, around_position};
 use crate::culprit::culprit_around;
 use crate::excerpt::{Excerpt, excerpt_at};
-use crate::sentence::{Texts, say_kind};
+use crate::sentence::{Texts, say_fault};
+use fmp_json::append_number;
 use fmp_lex::{FaultKind, TextFile, TokenPosition};
-use itoa::Buffer;
 use std::alloc::{AllocError, Global};
-
-fn append_number(number: u64, out: &mut Vec<u8>) -> Result<(), AllocError>
-    ensures { OnOk result (out.new.items ≡ out.old.items ++ decimal number) }
-{
-    out.extend_from_slice(Buffer::new().format(number).as_bytes())
-}
 
 /// The letter and digit of a kind of fault.
 fn code(kind: FaultKind) -> &'static str
@@ -63,22 +57,6 @@ fn append_code(code: &str, refusal: &str, out: &mut Vec<u8>) -> Result<(), Alloc
     out.extend_from_slice(b": ")
 }
 
-/// Appends the name of a file, a line, a column and the code of a fault.
-fn append_head(
-    name: &str,
-    line: u32,
-    column: usize,
-    code: &str,
-    refusal: &str,
-    out: &mut Vec<u8>,
-) -> Result<(), AllocError>
-    ensures { OnOk result (out.new.items ≡ out.old.items ++ spec.head name.now line column code.now refusal.now) }
-{
-    out.extend_from_slice(name.as_bytes())?;
-    append_numbers(line, column, out)?;
-    append_code(code, refusal, out)
-}
-
 /// What the first line of an image begins with as it is shown: a control byte comes after the letters, and two bytes of
 /// its picture are those of all pictures.
 const IMAGE_BEGIN: [u8; 6] = [b'F', b'M', b'P', b'I', 226, 144];
@@ -122,53 +100,54 @@ pub struct FaultReport {
 }
 
 impl FaultReport {
+    /// Appends the name of the file, the line, the column and the code.
+    fn append_head(&self, name: &str, out: &mut Vec<u8>) -> Result<(), AllocError>
+        ensures { OnOk result (out.new.items ≡ out.old.items ++ spec.head name.now self.now) }
+    {
+        out.extend_from_slice(name.as_bytes())?;
+        append_numbers(self.line, self.excerpt.column, out)?;
+        append_code(self.code, self.refusal, out)
+    }
+
     /// The finding as it is printed, under the name of its file: the line, the column, the code and the sentence, and
     /// the line of the text with marks, if it is no image. `AllocError` if memory runs out.
     pub fn report(&self, alloc: Global, name: &str) -> Result<Vec<u8>, AllocError>
         ensures { IfOk result (λ out. out.items ≡ spec.report name.now self.now) }
     {
         let mut out = Vec::new(alloc);
-        append_head(
-            name,
-            self.line,
-            self.excerpt.column,
-            self.code,
-            self.refusal,
-            &mut out,
-        )?;
+        self.append_head(name, &mut out)?;
         out.extend_from_slice(&self.sentence)?;
         append_excerpt(&self.excerpt, &mut out)?;
         Ok(out)
     }
 }
 
-/// The sentence on a fault at a place of one of two texts, around which it was looked at.
+/// The sentence on a fault at a position of one of two texts, around which it was looked at.
 fn sentence_of(
     alloc: Global,
     texts: Texts<'_>,
-    file: TextFile,
     around: &Around<'_>,
     kind: FaultKind,
 ) -> Result<Vec<u8>, AllocError>
     ensures { IfOk result (λ sentence. 0 < length sentence.items) }
 {
     let mut sentence = Vec::new(alloc);
-    say_kind(alloc, texts, file, around, kind, &mut sentence)?;
+    say_fault(alloc, texts, around, kind, &mut sentence)?;
     Ok(sentence)
 }
 
 /// The column after a token that begins at this column, from `at` up to `end`; at least one column is marked.
-pub fn column_behind(column: usize, at: usize, end: usize) -> usize
+pub fn column_after(column: usize, at: usize, end: usize) -> usize
     requires column { column ≤ 2 ^ 63 }
     requires end { end < 2 ^ 63 }
-    ensures { result ≡ spec.column_behind column at end }
+    ensures { result ≡ spec.column_after column at end }
 {
     column + end.saturating_sub(at).max(1)
 }
 
-/// What is said of a fault of one of two texts, which stands at this place of it. It is shown there, or where the text
-/// is to be changed: at a word before it, after that, or at a value of the static API. `AllocError` if memory runs
-/// out.
+/// What is said of a fault of one of two texts, which stands at this position of it. It is shown there, or where the
+/// text is to be changed: at a word before it, after that, or at a value of the static API. `AllocError` if memory
+/// runs out.
 pub fn finding_at(
     alloc: Global,
     texts: Texts<'_>,
@@ -179,14 +158,14 @@ pub fn finding_at(
     ensures { IfOk result (IsFinding (spec.text_of texts.entry file) position kind) }
 {
     let text = texts.of(file);
-    let around = around_position(alloc, text, position.start as usize)?;
-    let culprit = culprit_around(alloc, text, file, &around, position, kind)?;
+    let around = around_position(alloc, file, text, position.start as usize)?;
+    let culprit = culprit_around(alloc, text, &around, position, kind)?;
     let at = (culprit.start as usize).min(text.len());
     let excerpt = excerpt_at(alloc, text, at, culprit.end as usize)?;
-    let sentence = sentence_of(alloc, texts, file, &around, kind)?;
+    let sentence = sentence_of(alloc, texts, &around, kind)?;
     Ok(FaultReport {
         line: culprit.line,
-        end: column_behind(excerpt.column, at, culprit.end as usize),
+        end: column_after(excerpt.column, at, culprit.end as usize),
         excerpt,
         code: code(kind),
         refusal: refusal(kind),

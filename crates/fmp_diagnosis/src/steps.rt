@@ -5,7 +5,7 @@ ghost use Rattle.fmp_diagnosis.specs.StepFindings.{IsSaidOfLine, IsStepFinding, 
 ghost use Rattle.fmp_diagnosis.specs.Words.{IsSaid};
 
 use crate::excerpt::excerpt_at;
-use crate::reports::{FaultReport, column_behind};
+use crate::reports::{FaultReport, column_after};
 use crate::words::{BYTE_ORDER_MARK, Word, say};
 use std::alloc::{AllocError, Global};
 
@@ -230,7 +230,7 @@ fn line_start(text: &[u8], number: u32) -> usize
     text.len()
 }
 
-/// The place this number of bytes after another one, or the end of its line if that comes first.
+/// The position this number of bytes after another one, or the end of its line if that comes first.
 fn within_line(text: &[u8], from: usize, count: usize) -> usize
     requires { from ≤ length text.now }
     ensures low { from ≤ result }
@@ -247,33 +247,36 @@ fn within_line(text: &[u8], from: usize, count: usize) -> usize
     text.len()
 }
 
-/// What is said of the line of this number, which begins at a place of a steps text, with this code and sentence: it
-/// stands `from` bytes after that place, and has at most `length` bytes, all in that line.
+/// What is said of a line: a code and a sentence.
+#[derive(Drop)]
+struct Said {
+    code: &'static str,
+    sentence: Vec<u8>,
+}
+
+/// This is said of a stretch of the line of this number, from 1, of a steps text. Of the stretch that part is shown that
+/// stands in the line.
 fn said_of_line(
     alloc: Global,
     text: &[u8],
     number: u32,
-    start: usize,
     stretch: Stretch,
-    code: &'static str,
-    sentence: Vec<u8>,
+    said: Said,
 ) -> Result<FaultReport, AllocError>
-    requires within { start ≤ length text.now }
-    requires line { line_at text.now start ≤ max number 1 }
-    requires end { line_at text.now start < max number 1 → start ≡ length text.now }
-    requires said { 0 < length sentence.items }
-    ensures { IfOk result (IsSaidOfLine text.now number code.now) }
+    requires { 0 < length said.sentence.items }
+    ensures { IfOk result (IsSaidOfLine text.now number said.code.now) }
 {
+    let start = line_start(text, number);
     let at = within_line(text, start, stretch.from);
     let end = within_line(text, at, stretch.length);
     let excerpt = excerpt_at(alloc, text, at, end)?;
     Ok(FaultReport {
         line: number,
-        end: column_behind(excerpt.column, at, end),
+        end: column_after(excerpt.column, at, end),
         excerpt,
-        code,
+        code: said.code,
         refusal: "",
-        sentence,
+        sentence: said.sentence,
     })
 }
 
@@ -291,15 +294,8 @@ pub fn step_finding(
     let finish = within_line(text, start, usize::MAX);
     let found = wrong_in(&text[start..finish], flaw);
     let sentence = sentence_on(alloc, found.said, flaw)?;
-    said_of_line(
-        alloc,
-        text,
-        number,
-        start,
-        found.stretch,
-        flaw.code(),
-        sentence,
-    )
+    let code = flaw.code();
+    said_of_line(alloc, text, number, found.stretch, Said { code, sentence })
 }
 
 /// The sentence on an interrupt that has no handler.
@@ -326,11 +322,13 @@ pub fn step_warning(
 ) -> Result<FaultReport, AllocError>
     ensures { IfOk result (IsStepWarning text.now number) }
 {
-    let start = line_start(text, number);
-    let sentence = sentence_on_interrupt(alloc, interrupt)?;
+    let said = Said {
+        code: "warning",
+        sentence: sentence_on_interrupt(alloc, interrupt)?,
+    };
     let stretch = Stretch {
         from: 0,
         length: usize::MAX,
     };
-    said_of_line(alloc, text, number, start, stretch, "warning", sentence)
+    said_of_line(alloc, text, number, stretch, said)
 }

@@ -13,7 +13,7 @@ use crate::words::{
 };
 use crate::{expected_api, expected_statement};
 use fmp_base::Name;
-use fmp_lex::{Keyword, LexFault, Symbol, TextFile, TokenKind, Tokens};
+use fmp_lex::{Keyword, LexFault, Symbol, TextFile, TokenKind};
 use std::alloc::{AllocError, Global};
 
 /// A number of more bytes is not quoted.
@@ -76,37 +76,43 @@ fn is_utf16(bytes: &[u8]) -> bool {
     bytes.starts_with(&[0xFF, 0xFE]) || bytes.starts_with(&[0xFE, 0xFF])
 }
 
-/// Says why no token begins at the place.
-fn say_no_token(
-    alloc: Global,
-    file: TextFile,
-    around: &Around<'_>,
-    out: &mut Vec<u8>,
-) -> Result<(), AllocError>
+/// What is said of a text in another encoding, which begins with these bytes.
+fn said_of_encoding(bytes: &[u8]) -> Option<&'static str>
+    ensures { IfSome result (λ text. 0 < length text.now) }
+{
+    if bytes.starts_with(&BYTE_ORDER_MARK) {
+        Some("a byte order mark stands here; save the text without it")
+    } else if is_utf16(bytes) {
+        Some("this is a text in UTF-16; save it as UTF-8")
+    } else {
+        None
+    }
+}
+
+/// Says why no token begins at the position.
+fn say_no_token(alloc: Global, around: &Around<'_>, out: &mut Vec<u8>) -> Result<(), AllocError>
     ensures { OnOk result (IsSaid out.old.items out.new.items) }
 {
     let bytes = around.bytes;
     let first = first_of(bytes);
     if first.is_ascii_digit() {
         let word = &bytes[..word_length(bytes).min(bytes.len())];
-        let expected = expected_behind(alloc, file, &around.before.tokens)?;
+        let expected = expected_at(alloc, around)?;
         return say_digits(word, &expected, out);
     }
     if first == b'/' {
         return say_text("the comment that begins here is not closed", out);
     }
-    if bytes.starts_with(&BYTE_ORDER_MARK) {
-        return say_text(
-            "a byte order mark stands here; save the text without it",
-            out,
-        );
-    }
-    if is_utf16(bytes) {
-        return say_text("this is a text in UTF-16; save it as UTF-8", out);
+    if let Some(said) = said_of_encoding(bytes) {
+        return say_text(said, out);
     }
     if first.is_ascii_graphic() {
         say_text("no token begins with ", out)?;
-        return say_quoted(&[first], &[Word::Text(in_place_of(file, bytes))], out);
+        return say_quoted(
+            &[first],
+            &[Word::Text(in_place_of(around.file, bytes))],
+            out,
+        );
     }
     if !first.is_ascii() {
         return say_foreign(around, first, out);
@@ -155,7 +161,7 @@ pub fn say_too_great(bytes: &[u8], out: &mut Vec<u8>) -> Result<(), AllocError>
     )
 }
 
-/// Says what stands at the place.
+/// Says what stands at the position.
 fn say_found(around: &Around<'_>, out: &mut Vec<u8>) -> Result<(), AllocError>
     ensures { OnOk result (IsSaid out.old.items out.new.items) }
 {
@@ -168,7 +174,7 @@ fn say_found(around: &Around<'_>, out: &mut Vec<u8>) -> Result<(), AllocError>
     }
 }
 
-/// The name in front of the `(` at the place, where a service call may be meant: it is not declared there.
+/// The name in front of the `(` at the position, where a service call may be meant: it is not declared there.
 fn misspelt_call(around: &Around<'_>) -> Option<Name> {
     let name = match (around.here()?, around.back(1)?) {
         (TokenKind::Symbol(Symbol::LeftParen), TokenKind::Name(name)) => name,
@@ -192,7 +198,7 @@ fn misspelt_api(around: &Around<'_>) -> Option<Name> {
     }
 }
 
-/// Whether what stands before the place can't end an operand of an expression, and is part of one.
+/// Whether what stands before the position can't end an operand of an expression, and is part of one.
 fn wants_operand(around: &Around<'_>) -> bool {
     match around.back(1) {
         Some(TokenKind::Symbol(symbol)) => !matches!(
@@ -282,36 +288,31 @@ fn say_misspelt_call(alloc: Global, name: &Name, out: &mut Vec<u8>) -> Result<()
     )
 }
 
-/// The name that may stand for a keyword: that at the place, or the one with which a statement begins in front of it.
-fn misspelt_keyword(around: &Around<'_>, file: TextFile) -> Option<Name> {
-    match (name_at(&around.rest.tokens, 0), file) {
+/// The name that may stand for a keyword: the one at the position, or the one before it with which a statement begins.
+fn misspelt_keyword(around: &Around<'_>) -> Option<Name> {
+    match (name_at(&around.rest.tokens, 0), around.file) {
         (Some(name), _) => Some(name),
         (None, TextFile::Configuration) => None,
         (None, TextFile::Source) => expected_statement::head_name(&around.before.tokens),
     }
 }
 
-/// Asks whether a keyword was meant at the place, where a name is near to one.
-fn say_keyword(
-    alloc: Global,
-    file: TextFile,
-    around: &Around<'_>,
-    out: &mut Vec<u8>,
-) -> Result<(), AllocError>
+/// Asks whether a keyword was meant at the position, where a name is near to one.
+fn say_keyword(alloc: Global, around: &Around<'_>, out: &mut Vec<u8>) -> Result<(), AllocError>
     ensures { OnOk result (MaySay out.old.items out.new.items) }
 {
-    match misspelt_keyword(around, file) {
+    match misspelt_keyword(around) {
         Some(name) => {
-            let known = keywords(alloc, file)?;
+            let known = keywords(alloc, around.file)?;
             say_nearest(alloc, &name, &known, out)
         }
         None => Ok(()),
     }
 }
 
-/// The name before the place with which a statement begins that may not go on as it does.
-fn word_before(file: TextFile, around: &Around<'_>) -> Option<Name> {
-    if file == TextFile::Configuration {
+/// The name before the position with which a statement begins that may not go on as it does.
+fn word_before(around: &Around<'_>) -> Option<Name> {
+    if around.file == TextFile::Configuration {
         return None;
     }
     match misspelt_call(around) {
@@ -320,19 +321,19 @@ fn word_before(file: TextFile, around: &Around<'_>) -> Option<Name> {
     }
 }
 
-/// The name to which a fault at the place is due, if it is left out on purpose: that at the place, or the one before.
-fn left_out(file: TextFile, around: &Around<'_>) -> Option<Name> {
+/// The name to which a fault at the position is due, if it is left out on purpose: the one there, or the one before.
+fn left_out(around: &Around<'_>) -> Option<Name> {
     let name = match name_at(&around.rest.tokens, 0) {
         Some(name) if why_left_out(&name).is_some() => name,
-        _ => word_before(file, around)?,
+        _ => word_before(around)?,
     };
     why_left_out(&name)?;
     Some(name)
 }
 
-/// Whether a fault at the place is due to the word before it: one that is no service call, or is left out on purpose.
-pub fn is_due_to_word_before(file: TextFile, around: &Around<'_>) -> bool {
-    let Some(name) = word_before(file, around) else {
+/// Whether a fault at the position is due to the word before: one that is no service call, or is left out on purpose.
+pub fn is_due_to_word_before(around: &Around<'_>) -> bool {
+    let Some(name) = word_before(around) else {
         return false;
     };
     match around.here() {
@@ -342,44 +343,37 @@ pub fn is_due_to_word_before(file: TextFile, around: &Around<'_>) -> bool {
     }
 }
 
-/// Whether what stands at the place is wrong whatever is expected there.
-fn is_strange(file: TextFile, around: &Around<'_>) -> bool {
-    match (around.here(), file) {
+/// Whether what stands at the position is wrong whatever is expected there.
+fn is_strange(around: &Around<'_>) -> bool {
+    match (around.here(), around.file) {
         (Some(TokenKind::Bad(_)), _) => true,
-        _ if left_out(file, around).is_some() => true,
+        _ if left_out(around).is_some() => true,
         (_, TextFile::Configuration) => misspelt_api(around).is_some(),
         (_, TextFile::Source) => remark(around).is_some(),
     }
 }
 
-/// Whether a semicolon is among what may stand at the place.
-pub fn wants_semicolon(
-    alloc: Global,
-    file: TextFile,
-    around: &Around<'_>,
-) -> Result<bool, AllocError> {
-    if is_strange(file, around) {
+/// Whether a semicolon is among what may stand at the position.
+pub fn wants_semicolon(alloc: Global, around: &Around<'_>) -> Result<bool, AllocError> {
+    if is_strange(around) {
         return Ok(false);
     }
-    let expected = expected_behind(alloc, file, &around.before.tokens)?;
+    let expected = expected_at(alloc, around)?;
     Ok(expected.windows(3).any(|word| word == b"`;`".as_slice()))
 }
 
-/// What may stand after these tokens of a text.
-fn expected_behind(
-    alloc: Global,
-    file: TextFile,
-    tokens: &Tokens<'_>,
-) -> Result<Vec<u8>, AllocError> {
+/// What may stand at the position.
+fn expected_at(alloc: Global, around: &Around<'_>) -> Result<Vec<u8>, AllocError> {
+    let tokens = &around.before.tokens;
     let mut expected = Vec::new(alloc);
-    match file {
+    match around.file {
         TextFile::Configuration => expected_api::say_expected(tokens, &mut expected)?,
         TextFile::Source => expected_statement::say_expected(tokens, &mut expected)?,
     }
     Ok(expected)
 }
 
-/// Says what may stand at the place.
+/// Says what may stand at the position.
 fn say_expected(expected: &[u8], out: &mut Vec<u8>) -> Result<(), AllocError>
     ensures { OnOk result (IsSaid out.old.items out.new.items) }
 {
@@ -387,23 +381,18 @@ fn say_expected(expected: &[u8], out: &mut Vec<u8>) -> Result<(), AllocError>
     out.extend_from_slice(expected)
 }
 
-/// Says what may stand at the place, and what does.
-fn say_unexpected(
-    alloc: Global,
-    file: TextFile,
-    around: &Around<'_>,
-    out: &mut Vec<u8>,
-) -> Result<(), AllocError>
+/// Says what may stand at the position, and what does.
+fn say_unexpected(alloc: Global, around: &Around<'_>, out: &mut Vec<u8>) -> Result<(), AllocError>
     ensures { OnOk result (IsSaid out.old.items out.new.items) }
 {
-    let expected = expected_behind(alloc, file, &around.before.tokens)?;
+    let expected = expected_at(alloc, around)?;
     say_expected(&expected, out)?;
     say_found(around, out)?;
-    say_keyword(alloc, file, around, out)?;
-    say_habit(file, around, &expected, out)
+    say_keyword(alloc, around, out)?;
+    say_habit(around, &expected, out)
 }
 
-/// What a configuration has at the place, and what it may have there.
+/// What a configuration has at the position, and what it may have there.
 fn say_in_configuration(
     alloc: Global,
     around: &Around<'_>,
@@ -413,11 +402,11 @@ fn say_in_configuration(
 {
     match misspelt_api(around) {
         Some(name) => say_misspelt_api(alloc, &name, out),
-        None => say_unexpected(alloc, TextFile::Configuration, around, out),
+        None => say_unexpected(alloc, around, out),
     }
 }
 
-/// What a task text has at the place, and what it may have there.
+/// What a task text has at the position, and what it may have there.
 fn say_in_source(alloc: Global, around: &Around<'_>, out: &mut Vec<u8>) -> Result<(), AllocError>
     ensures { OnOk result (IsSaid out.old.items out.new.items) }
 {
@@ -426,7 +415,7 @@ fn say_in_source(alloc: Global, around: &Around<'_>, out: &mut Vec<u8>) -> Resul
     }
     match remark(around) {
         Some(text) => say_remark(text, around.here(), out),
-        None => say_unexpected(alloc, TextFile::Source, around, out),
+        None => say_unexpected(alloc, around, out),
     }
 }
 
@@ -441,39 +430,29 @@ fn say_word_left_out(name: &Name, out: &mut Vec<u8>) -> Result<(), AllocError>
     }
 }
 
-/// What a text has at the place, and what it may have there.
-fn say_in_text(
-    alloc: Global,
-    file: TextFile,
-    around: &Around<'_>,
-    out: &mut Vec<u8>,
-) -> Result<(), AllocError>
+/// What a text has at the position, and what it may have there.
+fn say_in_text(alloc: Global, around: &Around<'_>, out: &mut Vec<u8>) -> Result<(), AllocError>
     ensures { OnOk result (IsSaid out.old.items out.new.items) }
 {
-    if let Some(said) = said_of_declaration(file, around) {
+    if let Some(said) = said_of_declaration(around) {
         return say_text(said, out);
     }
-    if let Some(name) = left_out(file, around) {
+    if let Some(name) = left_out(around) {
         return say_word_left_out(&name, out);
     }
-    match file {
+    match around.file {
         TextFile::Configuration => say_in_configuration(alloc, around, out),
         TextFile::Source => say_in_source(alloc, around, out),
     }
 }
 
-/// Says what stands at the place of a fault of syntax, and what may stand there.
-pub fn say_syntax(
-    alloc: Global,
-    file: TextFile,
-    around: &Around<'_>,
-    out: &mut Vec<u8>,
-) -> Result<(), AllocError>
+/// Says what stands at the position of a fault of syntax, and what may stand there.
+pub fn say_syntax(alloc: Global, around: &Around<'_>, out: &mut Vec<u8>) -> Result<(), AllocError>
     ensures { OnOk result (IsSaid out.old.items out.new.items) }
 {
-    match (around.here(), file) {
-        (Some(TokenKind::Bad(LexFault::Syntax)), _) => say_no_token(alloc, file, around, out),
+    match (around.here(), around.file) {
+        (Some(TokenKind::Bad(LexFault::Syntax)), _) => say_no_token(alloc, around, out),
         (Some(TokenKind::Bad(LexFault::Limit)), _) => say_too_great(around.bytes, out),
-        _ => say_in_text(alloc, file, around, out),
+        _ => say_in_text(alloc, around, out),
     }
 }

@@ -7,8 +7,8 @@ ghost use Rattle.fmp_diagnosis.specs.Nearest.{question};
 ghost use Rattle.fmp_diagnosis.specs.Words.{IsSaid, IsSaidFirst};
 
 use fmp_base::Name;
+use fmp_json::{append, append_signed};
 use fmp_lex::{Constant, Symbol, TokenKind};
-use itoa::Buffer;
 use std::alloc::AllocError;
 
 /// The bytes of a byte order mark, which editors may put in front of a text.
@@ -50,42 +50,36 @@ pub enum Word {
     Number(i64),
 }
 
-fn append(text: &str, out: &mut Vec<u8>) -> Result<(), AllocError>
-    ensures { OnOk result (out.new.items ≡ out.old.items ++ text.now) }
-{
-    out.extend_from_slice(text.as_bytes())
-}
-
 /// Appends bytes in quotes.
 fn append_quoted(bytes: &[u8], out: &mut Vec<u8>) -> Result<(), AllocError>
     ensures { OnOk result (out.new.items ≡ out.old.items ++ spec.quoted bytes.now) }
 {
-    append("`", out)?;
-    out.extend_from_slice(bytes)?;
-    append("`", out)
+    append(b"`", out)?;
+    append(bytes, out)?;
+    append(b"`", out)
 }
 
 /// Asks whether a name was meant.
 pub fn ask_whether(name: &Name, out: &mut Vec<u8>) -> Result<(), AllocError>
     ensures { OnOk result (out.new.items ≡ out.old.items ++ question name.now) }
 {
-    append("; did you mean ", out)?;
+    append(b"; did you mean ", out)?;
     append_quoted(name.as_bytes(), out)?;
-    append("?", out)
+    append(b"?", out)
 }
 
 fn append_word(word: Word, out: &mut Vec<u8>) -> Result<(), AllocError>
     ensures { OnOk result (out.new.items ≡ out.old.items ++ spec.word_text word) }
 {
     match word {
-        Word::Text(text) => append(text, out),
+        Word::Text(text) => append(text.as_bytes(), out),
         Word::The(text) => {
-            append("the ", out)?;
-            append(text, out)
+            append(b"the ", out)?;
+            append(text.as_bytes(), out)
         }
         Word::Name(name) => append_quoted(name.as_bytes(), out),
         Word::Quoted(text) => append_quoted(text.as_bytes(), out),
-        Word::Number(number) => append(Buffer::new().format(number), out),
+        Word::Number(number) => append_signed(number, out),
     }
 }
 
@@ -109,7 +103,7 @@ pub fn say_text(text: &str, out: &mut Vec<u8>) -> Result<(), AllocError>
     requires { 0 < length text.now }
     ensures { OnOk result (IsSaid out.old.items out.new.items) }
 {
-    append(text, out)
+    append(text.as_bytes(), out)
 }
 
 /// Appends bytes in quotes, and words after them.
@@ -140,7 +134,7 @@ fn symbol_text(symbol: Symbol) -> &'static str {
     SYMBOLS[symbol as usize]
 }
 
-/// Says which token stands in a place, by its kind and as the texts write it.
+/// Says which token this is, by its kind and as the texts write it.
 pub fn say_token(kind: TokenKind, out: &mut Vec<u8>) -> Result<(), AllocError>
     ensures { OnOk result (IsSaid out.old.items out.new.items) }
 {

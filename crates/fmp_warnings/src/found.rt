@@ -4,7 +4,7 @@ ghost use Rattle.fmp_diagnosis.specs.Reports as spec;
 ghost use Rattle.fmp_diagnosis.specs.Reports.{IsWarning};
 
 use fmp_diagnosis::apis::is_symbol;
-use fmp_diagnosis::{FaultReport, Texts, column_behind, excerpt_at};
+use fmp_diagnosis::{FaultReport, Texts, column_after, excerpt_at};
 use fmp_lex::{Symbol, TextFile, TokenPosition, Tokens};
 use std::alloc::{AllocError, Global};
 
@@ -56,7 +56,7 @@ fn warning_at(
     let excerpt = excerpt_at(alloc, text, at, position.end as usize)?;
     Ok(FaultReport {
         line: position.line,
-        end: column_behind(excerpt.column, at, position.end as usize),
+        end: column_after(excerpt.column, at, position.end as usize),
         excerpt,
         code: "warning",
         refusal: "",
