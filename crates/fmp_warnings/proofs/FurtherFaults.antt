@@ -14,7 +14,7 @@ use Rattle.fmp_warnings.specs.Further.{LeadsTo, MayFollow}
 use Rattle.fmp_warnings.specs.Further.{both, both_left, left_out, one_of, with_one}
 use Rattle.fmp_warnings.specs.Further.{no_more, told, passed_over, is_passed, is_told}
 
--- what is left without a stretch, with its first fault
+-- what is left without a construct, with its first fault
 pub is_next : (l next : Left) (from to : ℕ) → from ≤ l.fault.position.start
     → both next.cfg.items next.src.items
     ≡ with_one (both_left l) l.fault.file (left_out (one_of (both_left l) l.fault.file) from to)

@@ -1,1 +1,4 @@
 pub mod FurtherFaults
+mod Marks
+mod ShownAt
+mod Warned

@@ -18,7 +18,7 @@ use Rattle.fmp_warnings.specs.declared.verdicts.TextsFault.{TextsFault}
 abbrev pub blanked : ℕ → ℕ
 blanked byte = if byte == 10 then 10 else 32
 
--- a text in which the bytes from one place up to another are left out
+-- a text in which the bytes from one position up to another are left out
 abbrev pub left_out : List ℕ → (from to : ℕ) → List ℕ
 left_out text from to =
     slice_range text 0 from ++ map blanked (slice_range text from to) ++ slice_range text to (length text)
@@ -49,7 +49,7 @@ both_left l = both l.cfg.items l.src.items
 abbrev pub IsFirst : BothTexts → TextsFault → Type 0
 IsFirst t f = IsBuildFault t.cfg t.src (build.At f.file f.position f.kind)
 
--- what is left of two texts: in that with this fault a stretch is left out that begins there or before
+-- what is left of two texts: in that with this fault a construct is left out that begins there or before
 pub record IsLeft (t : BothTexts) (f : TextsFault) (left : BothTexts) : Type 0 where
   pub from : ℕ
   pub to : ℕ

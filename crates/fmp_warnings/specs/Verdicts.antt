@@ -28,6 +28,7 @@ use Rattle.fmp_warnings.specs.declared.verdicts.Shown.{Shown}
 use Rattle.fmp_warnings.specs.declared.verdicts.Shown.TheVariants as shown
 use Rattle.fmp_warnings.specs.declared.verdicts.StepFault.{StepFault}
 use Rattle.fmp_warnings.specs.Further.{AreFurther, both_of}
+use Rattle.fmp_warnings.specs.Warnings.{AreWarningsOf}
 
 -- this is the first fault of two texts; or they build the image of a system with this number of processors
 abbrev pub IsFound : (cfg src : List ℕ) → TextsVerdict → Type 0
@@ -76,11 +77,12 @@ IsStepShown form names processors text out =
 abbrev pub IsIdleStep : (steps : List ℕ) → FaultReport → Type 0
 IsIdleStep steps f = (line : ℕ) × IsStepWarning steps line f
 
--- warnings of the texts, and then of the steps, as they are printed
-abbrev pub AreWarnings : Form → FileNames → (steps out : List ℕ) → Type 0
-AreWarnings form names steps out =
+-- the warnings of two texts, and then of the steps, as they are printed
+abbrev pub AreWarnings : Form → FileNames → Texts → (steps out : List ℕ) → Type 0
+AreWarnings form names t steps out =
     (ws : List Warning)
     × (idle : List FaultReport)
+    × AreWarningsOf t ws
     × All (IsIdleStep steps) idle
     × (out ≡ warnings_text form names ws ++ flat_map (printed form names.steps.now) idle)
 
@@ -97,7 +99,7 @@ IsShownOf form names t steps (found.Faulty f) (shown.Sound out) = ⊥
 IsShownOf form names t steps (found.Sound processors) (shown.Faulty out) =
     IsStepShown form names processors steps out.items
 IsShownOf form names t steps (found.Sound processors) (shown.Sound out) =
-    HasStepFault processors steps None × AreWarnings form names steps out.items
+    HasStepFault processors steps None × AreWarnings form names t steps out.items
 
 -- what is shown of two texts and of steps
 pub record IsShown (form : Form) (names : FileNames) (t : Texts) (steps : List ℕ) (s : Shown) : Type 0 where

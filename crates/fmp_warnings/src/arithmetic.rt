@@ -82,7 +82,7 @@ fn is_factor(symbol: Symbol) -> bool {
 
 /// How many parentheses and brackets of an operand of a comparison are open after a symbol, where this many were open
 /// before it; none where the operand ends there.
-fn depth_behind(depth: usize, symbol: Symbol) -> Option<usize> {
+fn depth_after(depth: usize, symbol: Symbol) -> Option<usize> {
     match symbol {
         Symbol::LeftParen | Symbol::LeftBracket => Some(depth.saturating_add(1)),
         Symbol::RightParen | Symbol::RightBracket => depth.checked_sub(1),
@@ -112,11 +112,11 @@ fn depth_before(depth: usize, symbol: Symbol) -> Option<usize> {
 }
 
 /// The symbol that ends the right operand of the comparison at a place, where it is no arithmetic.
-fn symbol_behind(tokens: &Tokens<'_>, at: usize) -> Option<Symbol> {
+fn symbol_after(tokens: &Tokens<'_>, at: usize) -> Option<Symbol> {
     let mut depth = 0;
     for place in at.saturating_add(1)..tokens.len() {
         if let Some(symbol) = symbol_at(tokens, place) {
-            match depth_behind(depth, symbol) {
+            match depth_after(depth, symbol) {
                 Some(next) => depth = next,
                 None => return Some(symbol),
             }
@@ -140,14 +140,14 @@ fn symbol_before(tokens: &Tokens<'_>, at: usize) -> Option<Symbol> {
 }
 
 /// The place of the comparison that ends the right operand of the comparison at a place, if one does.
-fn comparison_behind(tokens: &Tokens<'_>, at: usize) -> Option<usize> {
+fn comparison_after(tokens: &Tokens<'_>, at: usize) -> Option<usize> {
     let mut depth = 0;
     for place in at.saturating_add(1)..tokens.len() {
         if let Some(symbol) = symbol_at(tokens, place) {
             if depth == 0 && is_comparison(symbol) {
                 return Some(place);
             }
-            depth = depth_behind(depth, symbol)?;
+            depth = depth_after(depth, symbol)?;
         }
     }
     None
@@ -161,7 +161,7 @@ fn chained_at(tokens: &Tokens<'_>, at: usize) -> Option<usize> {
     if !is_comparison(first) {
         return None;
     }
-    let next = comparison_behind(tokens, at)?;
+    let next = comparison_after(tokens, at)?;
     match (is_order(first), is_order(symbol_at(tokens, next)?)) {
         (true, true) | (false, false) => Some(next),
         _ if symbol_before(tokens, at).is_some_and(is_comparison) => None,
@@ -174,7 +174,7 @@ fn chained_at(tokens: &Tokens<'_>, at: usize) -> Option<usize> {
 fn is_mixed(tokens: &Tokens<'_>, at: usize) -> bool {
     match symbol_at(tokens, at) {
         Some(symbol) if is_comparison(symbol) => {
-            symbol_behind(tokens, at).is_some_and(is_bitwise)
+            symbol_after(tokens, at).is_some_and(is_bitwise)
                 || symbol_before(tokens, at).is_some_and(is_bitwise)
         }
         _ => false,
@@ -292,16 +292,15 @@ fn say_flaw(flaw: Flaw, out: &mut Vec<u8>) -> Result<(), AllocError>
 /// does not fit into 32 bits, or that compare the outcome of a comparison or join it by `&`, `|` or `^`. That is
 /// certain: the operands are written there.
 pub fn warn_of_arithmetic(
-    alloc: Global,
     (src, landmarks): (&Tokens<'_>, &Landmarks),
     found: &mut FoundWarnings<'_>,
 ) -> Result<(), AllocError> {
     for place in &landmarks.operators {
         let at = *place;
         if let Some((place, flaw)) = flaw_at(src, at) {
-            let mut sentence = Vec::new(alloc);
+            let mut sentence = Vec::new(found.alloc);
             say_flaw(flaw, &mut sentence)?;
-            found.warn(alloc, TextFile::Source, src, place, sentence)?;
+            found.warn(TextFile::Source, src, place, sentence)?;
         }
     }
     Ok(())

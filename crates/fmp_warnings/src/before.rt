@@ -17,7 +17,7 @@ pub fn is_of_block(file: TextFile, parens: usize) -> bool {
     file == TextFile::Source || parens == 0
 }
 
-/// What is open before a place of a text.
+/// What is open before a position of a text.
 #[derive(Clone, Copy)]
 pub struct Before {
     file: TextFile,
@@ -63,7 +63,7 @@ impl Before {
         }
     }
 
-    /// The piece that begins at a place.
+    /// The piece that begins at a position.
     fn take(&mut self, text: &[u8], at: usize, piece: Piece) {
         match piece {
             Piece::Semicolon => self.end(),
@@ -88,16 +88,16 @@ impl Before {
     }
 }
 
-/// What is open before a place of one of the texts.
-pub fn before_place(text: &[u8], at: usize, file: TextFile) -> Before {
+/// What is open before a position of one of the texts.
+pub fn before_position(text: &[u8], at: usize, file: TextFile) -> Before {
     let mut before = Before::new(file);
     let mut pieces = Pieces::new();
-    for place in 0..at {
+    for position in 0..at {
         if let Some(piece) = pieces.take(
-            byte_at(text, place),
-            byte_at(text, place.saturating_add(1)),
+            byte_at(text, position),
+            byte_at(text, position.saturating_add(1)),
         ) {
-            before.take(text, place, piece);
+            before.take(text, position, piece);
         }
     }
     before

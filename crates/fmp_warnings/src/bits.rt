@@ -108,17 +108,16 @@ fn say_missed(alloc: Global, missed: MissedBits, out: &mut Vec<u8>) -> Result<()
 /// Warns of the waits of a task text for bits of an eventflag that are not set at first and that no call sets. That is
 /// certain: each call that sets bits of the eventflag gives them as a number.
 pub fn warn_of_bits(
-    alloc: Global,
     (src, landmarks): (&Tokens<'_>, &Landmarks),
     objects: &NamedObjects,
     found: &mut FoundWarnings<'_>,
 ) -> Result<(), AllocError> {
-    for place in &landmarks.structure {
-        let at = *place;
+    for mark in &landmarks.structure {
+        let at = mark.at;
         if let Some(missed) = missed_at(objects, src, at) {
-            let mut sentence = Vec::new(alloc);
-            say_missed(alloc, missed, &mut sentence)?;
-            found.warn(alloc, TextFile::Source, src, at.saturating_add(4), sentence)?;
+            let mut sentence = Vec::new(found.alloc);
+            say_missed(found.alloc, missed, &mut sentence)?;
+            found.warn(TextFile::Source, src, at.saturating_add(4), sentence)?;
         }
     }
     Ok(())

@@ -3,7 +3,7 @@ ghost use Rattle.std.specs.Prelude.{OnOk};
 ghost use Rattle.fmp_diagnosis.specs.Words.{IsSaid};
 
 use crate::found::FoundWarnings;
-use crate::landmarks::{Bracket, Landmarks};
+use crate::landmarks::{Landmarks, Mark};
 use fmp_base::Name;
 use fmp_diagnosis::apis::is_symbol;
 use fmp_diagnosis::around::{is_same, name_at};
@@ -80,7 +80,7 @@ fn is_declared_at(tokens: &Tokens<'_>, at: usize) -> bool {
 }
 
 /// The index after the bracket, where it is a number out of the range of the array whose name stands before it.
-fn misplaced_at(tokens: &Tokens<'_>, bracket: Bracket) -> Option<Misplaced> {
+fn misplaced_at(tokens: &Tokens<'_>, bracket: Mark) -> Option<Misplaced> {
     let at = bracket.at.saturating_sub(1);
     if is_declared_at(tokens, at) {
         return None;
@@ -118,16 +118,15 @@ fn say_misplaced(misplaced: Misplaced, out: &mut Vec<u8>) -> Result<(), AllocErr
 
 /// Warns of the indices of a task text that are numbers out of the range of their arrays.
 pub fn warn_of_indices(
-    alloc: Global,
     (src, landmarks): (&Tokens<'_>, &Landmarks),
     found: &mut FoundWarnings<'_>,
 ) -> Result<(), AllocError> {
     for bracket in &landmarks.brackets {
         if let Some(misplaced) = misplaced_at(src, *bracket) {
-            let mut sentence = Vec::new(alloc);
+            let mut sentence = Vec::new(found.alloc);
             say_misplaced(misplaced, &mut sentence)?;
             let place = bracket.at.saturating_add(1);
-            found.warn(alloc, TextFile::Source, src, place, sentence)?;
+            found.warn(TextFile::Source, src, place, sentence)?;
         }
     }
     Ok(())

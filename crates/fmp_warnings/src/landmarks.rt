@@ -1,4 +1,8 @@
 //! The tokens of a task text at which the warnings look: found once, in the walk over its calls.
+ghost use Rattle.std.specs.Prelude.{◌≡◌, ◌++◌, ◌∷◌, [], if◌then◌else◌, OnOk};
+ghost use Rattle.fmp_diagnosis.specs.Tokens as tokens;
+ghost use Rattle.fmp_warnings.specs.Marks as spec;
+
 use fmp_diagnosis::around::begins_body;
 use fmp_lex::{Symbol, TokenKind};
 use std::alloc::{AllocError, Global};
@@ -7,18 +11,19 @@ use std::alloc::{AllocError, Global};
 #[derive(Drop)]
 pub struct Landmarks {
     /// Keywords, service calls and braces.
-    pub structure: Vec<usize>,
+    pub structure: Vec<Mark>,
     /// The symbols of expressions between operands.
     pub operators: Vec<usize>,
     /// Brackets that open.
-    pub brackets: Vec<Bracket>,
+    pub brackets: Vec<Mark>,
     /// Where the last body begins.
     body: usize,
 }
 
-/// A bracket that opens.
+/// A token.
 #[derive(Clone, Copy)]
-pub struct Bracket {
+pub struct Mark {
+    /// Its place.
     pub at: usize,
     /// Where the body begins in which it stands.
     pub body: usize,
@@ -43,7 +48,10 @@ fn is_operator(symbol: Symbol) -> bool {
 
 impl Landmarks {
     /// Those of a text without tokens.
-    pub fn new(alloc: Global) -> Landmarks {
+    pub fn new(alloc: Global) -> Landmarks
+        ensures structure { result.structure.items ≡ [] }
+        ensures body { result.body ≡ 0 }
+    {
         Landmarks {
             structure: Vec::new(alloc),
             operators: Vec::new(alloc),
@@ -52,15 +60,31 @@ impl Landmarks {
         }
     }
 
+    /// The token at a place of the last body.
+    fn mark(&self, at: usize) -> Mark
+        ensures { result ≡ record { at = at; body = self.now.body } }
+    {
+        Mark {
+            at,
+            body: self.body,
+        }
+    }
+
     /// Notes a symbol at a place.
-    fn note_symbol(&mut self, at: usize, symbol: Symbol) -> Result<(), AllocError> {
+    fn note_symbol(&mut self, at: usize, symbol: Symbol) -> Result<(), AllocError>
+        ensures body { OnOk result (self.new.body ≡ self.old.body) }
+        ensures structure { OnOk result (self.new.structure.items ≡ self.old.structure.items
+            ++ (if spec.is_structure (TokenKind.Symbol symbol) then record { at = at; body = self.old.body } ∷ []
+            else [])) }
+    {
         match symbol {
             Symbol::LeftBrace | Symbol::RightBrace => {
-                self.structure.push(at)?;
+                let mark = self.mark(at);
+                self.structure.push(mark)?;
             }
             Symbol::LeftBracket => {
-                let body = self.body;
-                self.brackets.push(Bracket { at, body })?;
+                let mark = self.mark(at);
+                self.brackets.push(mark)?;
             }
             _ if is_operator(symbol) => {
                 self.operators.push(at)?;
@@ -71,13 +95,18 @@ impl Landmarks {
     }
 
     /// Notes the next token, which stands at a place.
-    pub fn note(&mut self, at: usize, kind: TokenKind) -> Result<(), AllocError> {
+    pub fn note(&mut self, at: usize, kind: TokenKind) -> Result<(), AllocError>
+        ensures body { OnOk result (self.new.body ≡ if tokens.begins_body kind then at else self.old.body) }
+        ensures structure { OnOk result (self.new.structure.items ≡ self.old.structure.items
+            ++ (if spec.is_structure kind then record { at = at; body = self.new.body } ∷ [] else [])) }
+    {
+        if begins_body(kind) {
+            self.body = at;
+        }
         match kind {
             TokenKind::Keyword(_) | TokenKind::Service(_) => {
-                if begins_body(kind) {
-                    self.body = at;
-                }
-                self.structure.push(at)?;
+                let mark = self.mark(at);
+                self.structure.push(mark)?;
                 Ok(())
             }
             TokenKind::Symbol(symbol) => self.note_symbol(at, symbol),

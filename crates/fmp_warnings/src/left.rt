@@ -3,7 +3,7 @@ ghost use Rattle.std.specs.Prelude.{◌≡◌, ◌≤◌, ◌++◌, IfOk, IfSome
 ghost use Rattle.fmp_warnings.specs.Further as spec;
 ghost use Rattle.fmp_warnings.specs.Further.{IsNext, both, both_left, both_of, one_of, with_one};
 
-use crate::constructs::{Stretch, stretch_of};
+use crate::constructs::{Construct, construct_of};
 use crate::verdicts::{TextsFault, TextsVerdict, found_in};
 use fmp_diagnosis::Texts;
 use fmp_lex::TextFile;
@@ -34,16 +34,16 @@ fn append_blanked(text: &[u8], out: &mut Vec<u8>) -> Result<(), AllocError>
     Ok(())
 }
 
-/// A text, in which a stretch is left out.
-fn left_out(alloc: Global, text: &[u8], stretch: Stretch) -> Result<Vec<u8>, AllocError>
-    requires order { stretch.from ≤ stretch.to }
-    requires within { stretch.to ≤ length text.now }
-    ensures { IfOk result (λ out. out.items ≡ spec.left_out text.now stretch.from stretch.to) }
+/// A text, in which a construct is left out.
+fn left_out(alloc: Global, text: &[u8], construct: Construct) -> Result<Vec<u8>, AllocError>
+    requires order { construct.from ≤ construct.to }
+    requires within { construct.to ≤ length text.now }
+    ensures { IfOk result (λ out. out.items ≡ spec.left_out text.now construct.from construct.to) }
 {
     let mut out = Vec::new(alloc);
-    out.extend_from_slice(&text[..stretch.from])?;
-    append_blanked(&text[stretch.from..stretch.to], &mut out)?;
-    out.extend_from_slice(&text[stretch.to..])?;
+    out.extend_from_slice(&text[..construct.from])?;
+    append_blanked(&text[construct.from..construct.to], &mut out)?;
+    out.extend_from_slice(&text[construct.to..])?;
     Ok(out)
 }
 
@@ -79,25 +79,25 @@ impl Left {
         }
     }
 
-    /// The two without a stretch of one of them.
+    /// The two without a construct of one of them.
     fn without(
         &self,
         alloc: Global,
         file: TextFile,
-        stretch: Stretch,
+        construct: Construct,
     ) -> Result<(Vec<u8>, Vec<u8>), AllocError>
-        requires order { stretch.from ≤ stretch.to }
-        requires within { stretch.to ≤ length (one_of (both_left self.now) file) }
+        requires order { construct.from ≤ construct.to }
+        requires within { construct.to ≤ length (one_of (both_left self.now) file) }
         ensures { IfOk result (λ left. both left.0.items left.1.items ≡ with_one (both_left self.now) file
-            (spec.left_out (one_of (both_left self.now) file) stretch.from stretch.to)) }
+            (spec.left_out (one_of (both_left self.now) file) construct.from construct.to)) }
     {
         match file {
             TextFile::Configuration => {
-                let cfg = left_out(alloc, &self.cfg, stretch)?;
+                let cfg = left_out(alloc, &self.cfg, construct)?;
                 Ok((cfg, copied(alloc, &self.src)?))
             }
             TextFile::Source => {
-                let src = left_out(alloc, &self.src, stretch)?;
+                let src = left_out(alloc, &self.src, construct)?;
                 Ok((copied(alloc, &self.cfg)?, src))
             }
         }
@@ -110,10 +110,10 @@ impl Left {
         ensures { IfOk result (λ left. IfSome left (IsNext self.now)) }
     {
         let file = self.fault.file;
-        let Some(stretch) = stretch_of(self.text(file), self.fault) else {
+        let Some(construct) = construct_of(self.text(file), self.fault) else {
             return Ok(None);
         };
-        let (cfg, src) = self.without(alloc, file, stretch)?;
+        let (cfg, src) = self.without(alloc, file, construct)?;
         match found_in(alloc, &cfg, &src)? {
             TextsVerdict::Sound(_) => Ok(None),
             TextsVerdict::Faulty(fault) => Ok(Some(Left { cfg, src, fault })),

@@ -4,8 +4,8 @@
 
 mod arithmetic;
 mod before;
-mod behind;
 mod bits;
+mod construct_end;
 mod constructs;
 mod contexts;
 mod found;

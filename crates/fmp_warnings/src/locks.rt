@@ -3,7 +3,7 @@
 use crate::contexts::BodyKind;
 use crate::found::FoundWarnings;
 use crate::holds::{Flaw, Held, Hold, say_held};
-use crate::landmarks::Landmarks;
+use crate::landmarks::{Landmarks, Mark};
 use crate::objects::NamedObjects;
 use crate::sections::{Guard, guard_at, is_in_sections};
 use crate::walk::{Lone, lone_argument};
@@ -85,7 +85,7 @@ impl HeldWalk {
     }
 
     /// The walk after the end of a block. What was taken in the block is certain no more.
-    fn behind_block(self) -> HeldWalk {
+    fn after_block_end(self) -> HeldWalk {
         let depth = self.depth.saturating_sub(1);
         let held = self.held.filter(|held| held.depth <= depth);
         HeldWalk {
@@ -98,7 +98,7 @@ impl HeldWalk {
 
     /// The walk after a jump. Nothing reaches the rest of its block; what was taken outside the block is held after
     /// it, unless the only round in which it is held for sure may end here.
-    fn behind_jump(self) -> HeldWalk {
+    fn after_jump(self) -> HeldWalk {
         match self.held {
             Some(held) if held.depth < self.depth && !held.is_doubtful(self.depth) => self,
             _ => HeldWalk { held: None, ..self },
@@ -106,7 +106,7 @@ impl HeldWalk {
     }
 
     /// The walk after a step. A call that gives something back may give back anything, unless it is wrong.
-    fn behind(self, step: Step) -> HeldWalk {
+    fn after(self, step: Step) -> HeldWalk {
         let kind = step.kind;
         match kind {
             TokenKind::Keyword(Keyword::Task | Keyword::Handler) => HeldWalk {
@@ -115,14 +115,14 @@ impl HeldWalk {
                 ..HeldWalk::new()
             },
             TokenKind::Symbol(Symbol::LeftBrace) => self.in_block(),
-            TokenKind::Symbol(Symbol::RightBrace) => self.behind_block(),
+            TokenKind::Symbol(Symbol::RightBrace) => self.after_block_end(),
             TokenKind::Keyword(Keyword::If | Keyword::Else) => HeldWalk {
                 chooses: true,
                 ..self
             },
             TokenKind::Keyword(Keyword::While) => self.looping(step),
             _ if gives_back(kind) && !step.is_wrong => HeldWalk { held: None, ..self },
-            _ if jumps(kind) => self.behind_jump(),
+            _ if jumps(kind) => self.after_jump(),
             _ => self,
         }
     }
@@ -156,7 +156,7 @@ impl HeldWalk {
     }
 
     /// What may be held after the end of a block, of what is or may be held in it: nothing after that of a loop.
-    fn kept_behind_block(self) -> Option<Held> {
+    fn kept_after_block(self) -> Option<Held> {
         let depth = self.depth.saturating_sub(1);
         let taken = self.held.filter(|held| held.depth > depth);
         let kept = taken.or(self.kept)?;
@@ -170,7 +170,7 @@ impl HeldWalk {
     fn at_block_end(self, goes_on: bool) -> HeldWalk {
         let depth = self.depth.saturating_sub(1);
         let walk = HeldWalk {
-            kept: self.kept_behind_block(),
+            kept: self.kept_after_block(),
             ..self
         };
         match self.open_if {
@@ -317,11 +317,11 @@ fn is_on_caller(tokens: &Tokens<'_>, at: usize) -> bool {
     )
 }
 
-/// The bodies that are walked over: the tokens, the places at which the walk looks, and the objects.
+/// The bodies that are walked over: the tokens, those at which the walk looks, and the objects.
 #[derive(Clone, Copy)]
 struct Bodies<'a> {
     src: &'a Tokens<'a>,
-    places: &'a [usize],
+    marks: &'a [Mark],
     objects: &'a NamedObjects,
 }
 
@@ -368,14 +368,14 @@ impl Bodies<'_> {
         let (Some(taken), Some(given)) = (self.guard(held.at), self.guard(at)) else {
             return false;
         };
-        let body = self.places.get(walk.body..).unwrap_or(&[]);
+        let body = self.marks.get(walk.body..).unwrap_or(&[]);
         !taken.is(given) && is_in_sections(self.objects, self.src, body, given)
     }
 
-    /// The step of a walk to one of the places.
+    /// The step of a walk to one of the tokens.
     fn step(self, walk: HeldWalk, index: usize, at: usize, kind: TokenKind) -> Step {
         let is_loop = kind == TokenKind::Keyword(Keyword::While) && walk.held.is_some();
-        let after = self.places.get(index.saturating_add(1)..).unwrap_or(&[]);
+        let after = self.marks.get(index.saturating_add(1)..).unwrap_or(&[]);
         Step {
             index,
             kind,
@@ -395,28 +395,27 @@ impl Bodies<'_> {
 /// a task may come with a lock, since an `if` takes it, or gives it back, on some of its ways alone, and nothing after
 /// that gives back, jumps or loops. Of an end that a loop may keep the task from nothing is said.
 pub fn warn_of_locks(
-    alloc: Global,
     (src, landmarks): (&Tokens<'_>, &Landmarks),
     objects: &NamedObjects,
     found: &mut FoundWarnings<'_>,
 ) -> Result<(), AllocError> {
     let bodies = Bodies {
         src,
-        places: &landmarks.structure,
+        marks: &landmarks.structure,
         objects,
     };
     let mut walk = HeldWalk::new();
     for index in 0..landmarks.structure.len() {
-        let at = landmarks.structure[index];
+        let at = landmarks.structure[index].at;
         if let Some(kind) = src.kind(at) {
             let step = bodies.step(walk, index, at, kind);
             if let Some((flaw, held)) = walk.flaw(step) {
-                let mut sentence = Vec::new(alloc);
+                let mut sentence = Vec::new(found.alloc);
                 let line = line_of(src, held.at).unwrap_or(1);
                 say_held(flaw, held, line, &mut sentence)?;
-                found.warn(alloc, TextFile::Source, src, at, sentence)?;
+                found.warn(TextFile::Source, src, at, sentence)?;
             }
-            walk = walk.through_ways(kind, step.next).behind(step);
+            walk = walk.through_ways(kind, step.next).after(step);
             if let Some(hold) = bodies.taken(at, kind) {
                 walk = walk.taking(at, hold);
             }

@@ -11,7 +11,7 @@ use std::alloc::{AllocError, Global};
 
 /// The place after the group that begins at a place, of which the first of these symbols opens a level and the second
 /// closes one.
-fn behind_group(tokens: &Tokens<'_>, begin: usize, opens: Symbol, closes: Symbol) -> usize {
+fn group_end(tokens: &Tokens<'_>, begin: usize, opens: Symbol, closes: Symbol) -> usize {
     let mut open = 0usize;
     for at in begin..tokens.len() {
         if is_symbol(tokens, at, opens) {
@@ -92,8 +92,8 @@ fn is_endless(alloc: Global, tokens: &Tokens<'_>, at: usize) -> Result<bool, All
     if is_never(tokens, begin) {
         return Ok(false);
     }
-    let block = behind_group(tokens, begin, Symbol::LeftParen, Symbol::RightParen);
-    let end = behind_group(tokens, block, Symbol::LeftBrace, Symbol::RightBrace);
+    let block = group_end(tokens, begin, Symbol::LeftParen, Symbol::RightParen);
+    let end = group_end(tokens, block, Symbol::LeftBrace, Symbol::RightBrace);
     let condition = names_in(alloc, tokens, begin, block)?;
     for place in begin..end {
         if may_end(tokens, place, &condition) {
@@ -106,19 +106,18 @@ fn is_endless(alloc: Global, tokens: &Tokens<'_>, at: usize) -> Result<bool, All
 /// Warns of the loops of a task text that make no call, do not change what their condition reads, and have no jump out
 /// of them.
 pub fn warn_of_loops(
-    alloc: Global,
     (src, landmarks): (&Tokens<'_>, &Landmarks),
     found: &mut FoundWarnings<'_>,
 ) -> Result<(), AllocError> {
-    for place in &landmarks.structure {
-        let at = *place;
-        if is_endless(alloc, src, at)? {
+    for mark in &landmarks.structure {
+        let at = mark.at;
+        if is_endless(found.alloc, src, at)? {
             let words = [Word::Text(
                 "nothing in this loop ends it: it makes no call, has no jump out, and does not change its condition",
             )];
-            let mut sentence = Vec::new(alloc);
+            let mut sentence = Vec::new(found.alloc);
             say(&words, &mut sentence)?;
-            found.warn(alloc, TextFile::Source, src, at, sentence)?;
+            found.warn(TextFile::Source, src, at, sentence)?;
         }
     }
     Ok(())

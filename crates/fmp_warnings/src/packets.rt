@@ -75,7 +75,6 @@ fn say_stray(
 
 /// Warns of the constants in a field of the API at a place that are not for it.
 fn warn_of_field(
-    alloc: Global,
     cfg: &Tokens<'_>,
     at: usize,
     api: Api,
@@ -85,9 +84,9 @@ fn warn_of_field(
     let begin = begin_of(cfg, at, api, field);
     for place in begin..value_last(cfg, begin).saturating_add(1) {
         if let Some(constant) = stray_constant(cfg, place, api, field) {
-            let mut sentence = Vec::new(alloc);
+            let mut sentence = Vec::new(found.alloc);
             say_stray(api, field, constant, &mut sentence)?;
-            found.warn(alloc, TextFile::Configuration, cfg, place, sentence)?;
+            found.warn(TextFile::Configuration, cfg, place, sentence)?;
         }
     }
     Ok(())
@@ -95,7 +94,6 @@ fn warn_of_field(
 
 /// Warns of the constants of a configuration that are not for the field in which they stand.
 pub fn warn_of_constants(
-    alloc: Global,
     cfg: &Tokens<'_>,
     found: &mut FoundWarnings<'_>,
 ) -> Result<(), AllocError> {
@@ -103,7 +101,7 @@ pub fn warn_of_constants(
         if let Some(api) = api_at(cfg, at) {
             for field in fields_of(api) {
                 if field.is_value() {
-                    warn_of_field(alloc, cfg, at, api, *field, found)?;
+                    warn_of_field(cfg, at, api, *field, found)?;
                 }
             }
         }

@@ -1,5 +1,7 @@
 //! The pieces of a text that tell where a construct begins and ends. A text is gone through byte by byte, whether its
 //! tokens are well formed or not.
+use crate::before::begins_unit;
+use fmp_lex::TextFile;
 
 /// What begins at a byte.
 #[derive(Clone, Copy, PartialEq, Eq)]
@@ -99,12 +101,12 @@ impl Pieces {
     }
 }
 
-/// The byte at a place; 0 after the end.
+/// The byte at a position; 0 after the end.
 pub fn byte_at(text: &[u8], at: usize) -> u8 {
     text.get(at).copied().unwrap_or(0)
 }
 
-/// The word that begins at a place; empty if none does.
+/// The word that begins at a position; empty if none does.
 pub fn word_at(text: &[u8], at: usize) -> &[u8] {
     let rest = text.get(at..).unwrap_or(&[]);
     let end = rest
@@ -117,4 +119,26 @@ pub fn word_at(text: &[u8], at: usize) -> &[u8] {
 /// Whether two words have the same letters.
 pub fn is_word(word: &[u8], letters: &[u8]) -> bool {
     word == letters
+}
+
+/// Where the next body begins, from a position on.
+pub fn next_body(text: &[u8], from: usize) -> Option<usize> {
+    let mut pieces = Pieces::new();
+    for at in from..text.len() {
+        let piece = pieces.take(byte_at(text, at), byte_at(text, at.saturating_add(1)));
+        if piece == Some(Piece::Word) && begins_unit(word_at(text, at), TextFile::Source) {
+            return Some(at);
+        }
+    }
+    None
+}
+
+/// Where the line ends in which a position stands.
+pub fn line_end(text: &[u8], from: usize) -> usize {
+    for at in from..text.len() {
+        if byte_at(text, at) == b'\n' {
+            return at;
+        }
+    }
+    text.len()
 }

@@ -1,5 +1,6 @@
 //! Where a body may hold a spin lock or the CPU lock: only in sections that one call begins and another one ends, if
 //! nothing but calls stands between them.
+use crate::landmarks::Mark;
 use crate::objects::NamedObjects;
 use fmp_base::{Name, Service};
 use fmp_diagnosis::apis::is_symbol;
@@ -74,23 +75,23 @@ fn after_outside(guard: Guard, kind: TokenKind, found: Option<Guard>) -> Option<
     }
 }
 
-/// Whether the body that begins at one of these places holds something in sections alone.
+/// Whether the body that begins with the first of these tokens holds something in sections alone.
 pub fn is_in_sections(
     objects: &NamedObjects,
     tokens: &Tokens<'_>,
-    body: &[usize],
+    body: &[Mark],
     guard: Guard,
 ) -> bool {
     let mut is_open = false;
-    for at in body.get(1..).unwrap_or(&[]) {
-        let Some(kind) = tokens.kind(*at) else {
+    for mark in body.get(1..).unwrap_or(&[]) {
+        let Some(kind) = tokens.kind(mark.at) else {
             return false;
         };
         if begins_body(kind) {
             return !is_open;
         }
         let found = match kind {
-            TokenKind::Service(service) => guard_at(objects, tokens, *at, service),
+            TokenKind::Service(service) => guard_at(objects, tokens, mark.at, service),
             _ => None,
         };
         let after = if is_open {

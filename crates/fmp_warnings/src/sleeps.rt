@@ -28,14 +28,13 @@ fn sleeps_on(objects: &NamedObjects, body: &Name) -> bool {
 /// Warns of the calls of `slp_tsk` in a task text after which no task goes on. That is certain: no call has one of the
 /// tasks of the body, or what may be one, as the task that it wakes up, releases or terminates.
 pub fn warn_of_sleeps(
-    alloc: Global,
     (src, landmarks): (&Tokens<'_>, &Landmarks),
     objects: &NamedObjects,
     found: &mut FoundWarnings<'_>,
 ) -> Result<(), AllocError> {
     let mut is_for_ever = false;
-    for place in &landmarks.structure {
-        let at = *place;
+    for mark in &landmarks.structure {
+        let at = mark.at;
         if begins_body_at(src, at) {
             is_for_ever = match name_at(src, at.saturating_add(1)) {
                 Some(body) => sleeps_on(objects, &body),
@@ -44,9 +43,9 @@ pub fn warn_of_sleeps(
         }
         if is_for_ever && src.kind(at) == Some(TokenKind::Service(Service::SlpTsk)) {
             let words = [Word::Text("nothing ends this sleep: no call wakes a task of this body")];
-            let mut sentence = Vec::new(alloc);
+            let mut sentence = Vec::new(found.alloc);
             say(&words, &mut sentence)?;
-            found.warn(alloc, TextFile::Source, src, at, sentence)?;
+            found.warn(TextFile::Source, src, at, sentence)?;
         }
     }
     Ok(())

@@ -35,6 +35,13 @@ pub struct FileNames<'a> {
     pub steps: &'a str,
 }
 
+/// How findings are printed, and under which names.
+#[derive(Clone, Copy)]
+struct Style<'a> {
+    form: Form,
+    names: FileNames<'a>,
+}
+
 /// The first fault of two texts.
 #[derive(Clone, Copy)]
 pub struct TextsFault {
@@ -154,15 +161,19 @@ fn printed(
 /// Warnings, as they are printed, one after the other.
 fn printed_warnings(
     alloc: Global,
-    form: Form,
-    names: FileNames<'_>,
+    style: Style<'_>,
     warnings: &[Warning],
 ) -> Result<Vec<u8>, AllocError>
-    ensures { IfOk result (λ out. out.items ≡ warnings_text form names.entry warnings.now) }
+    ensures { IfOk result (λ out. out.items ≡ warnings_text style.entry.form style.entry.names warnings.now) }
 {
     let mut out = Vec::new(alloc);
     for warning in warnings {
-        let text = printed(alloc, form, name_of(names, warning.file), &warning.finding)?;
+        let text = printed(
+            alloc,
+            style.form,
+            name_of(style.names, warning.file),
+            &warning.finding,
+        )?;
         out.extend_from_slice(&text)?;
     }
     Ok(out)
@@ -188,16 +199,15 @@ fn printed_findings(
 /// Warnings of texts and findings of steps, as they are printed, one after the other.
 fn printed_both(
     alloc: Global,
-    form: Form,
-    names: FileNames<'_>,
+    style: Style<'_>,
     warnings: &[Warning],
     idle: &[FaultReport],
 ) -> Result<Vec<u8>, AllocError>
-    ensures { IfOk result (λ out. out.items ≡ warnings_text form names.entry warnings.now
-        ++ flat_map (spec.printed form names.entry.steps.now) idle.now) }
+    ensures { IfOk result (λ out. out.items ≡ warnings_text style.entry.form style.entry.names warnings.now
+        ++ flat_map (spec.printed style.entry.form style.entry.names.steps.now) idle.now) }
 {
-    let mut out = printed_warnings(alloc, form, names, warnings)?;
-    let text = printed_findings(alloc, form, names.steps, idle)?;
+    let mut out = printed_warnings(alloc, style, warnings)?;
+    let text = printed_findings(alloc, style.form, style.names.steps, idle)?;
     out.extend_from_slice(&text)?;
     Ok(out)
 }
@@ -205,52 +215,54 @@ fn printed_both(
 /// The warnings of two texts and of steps for this many processors, none of which has a fault, as they are printed.
 fn printed_sound(
     alloc: Global,
-    form: Form,
-    names: FileNames<'_>,
+    style: Style<'_>,
     texts: Texts<'_>,
     steps: &[u8],
     processors: u8,
 ) -> Result<Vec<u8>, AllocError>
-    ensures { IfOk result (λ out. AreWarnings form names.entry steps.now out.items) }
+    ensures { IfOk result (λ out. AreWarnings style.entry.form style.entry.names texts.entry steps.now out.items) }
 {
     let warnings = warnings_of(alloc, texts)?;
     let idle = idle_steps(alloc, texts.cfg, steps, processors)?;
-    let out = printed_both(alloc, form, names, &warnings, &idle)?;
+    let out = printed_both(alloc, style, &warnings, &idle)?;
     Ok(out)
 }
 
 /// What is shown of steps for this many processors, and of two texts that have no fault: the first fault of the steps,
 /// or the warnings.
-fn shown_behind(
+fn shown_of_steps(
     alloc: Global,
-    form: Form,
-    names: FileNames<'_>,
+    style: Style<'_>,
     texts: Texts<'_>,
     steps: &[u8],
     processors: u8,
 ) -> Result<Shown, AllocError>
-    ensures { IfOk result (IsShownOf form names.entry texts.entry steps.now (found.Sound processors)) }
+    ensures { IfOk result (IsShownOf style.entry.form style.entry.names texts.entry steps.now (found.Sound processors)) }
 {
     if let Some(fault) = step_fault(alloc, steps, processors)? {
         let finding = step_finding(alloc, steps, fault.line, fault.flaw)?;
-        return Ok(Shown::Faulty(printed(alloc, form, names.steps, &finding)?));
+        return Ok(Shown::Faulty(printed(alloc, style.form, style.names.steps, &finding)?));
     }
-    let out = printed_sound(alloc, form, names, texts, steps, processors)?;
+    let out = printed_sound(alloc, style, texts, steps, processors)?;
     Ok(Shown::Sound(out))
 }
 
 /// The faults of two texts, as they are printed, one after the other.
 fn printed_faults(
     alloc: Global,
-    form: Form,
-    names: FileNames<'_>,
+    style: Style<'_>,
     faults: &[ToldFault],
 ) -> Result<Vec<u8>, AllocError>
-    ensures { IfOk result (λ out. out.items ≡ faults_text form names.entry faults.now) }
+    ensures { IfOk result (λ out. out.items ≡ faults_text style.entry.form style.entry.names faults.now) }
 {
     let mut out = Vec::new(alloc);
     for fault in faults {
-        let text = printed(alloc, form, name_of(names, fault.file), &fault.finding)?;
+        let text = printed(
+            alloc,
+            style.form,
+            name_of(style.names, fault.file),
+            &fault.finding,
+        )?;
         out.extend_from_slice(&text)?;
     }
     Ok(out)
@@ -259,17 +271,17 @@ fn printed_faults(
 /// A fault of this text and those after it, as they are printed.
 fn printed_with(
     alloc: Global,
-    form: Form,
-    names: FileNames<'_>,
+    style: Style<'_>,
     file: TextFile,
     finding: &FaultReport,
     further: &[ToldFault],
 ) -> Result<Vec<u8>, AllocError>
-    ensures { IfOk result (λ out. out.items ≡ spec.printed form (spec.name_of names.entry file) finding.now
-        ++ faults_text form names.entry further.now) }
+    ensures { IfOk result (λ out. out.items
+        ≡ spec.printed style.entry.form (spec.name_of style.entry.names file) finding.now
+        ++ faults_text style.entry.form style.entry.names further.now) }
 {
-    let mut out = printed(alloc, form, name_of(names, file), finding)?;
-    let text = printed_faults(alloc, form, names, further)?;
+    let mut out = printed(alloc, style.form, name_of(style.names, file), finding)?;
+    let text = printed_faults(alloc, style, further)?;
     out.extend_from_slice(&text)?;
     Ok(out)
 }
@@ -277,17 +289,16 @@ fn printed_with(
 /// What is shown of two texts with this first fault: the fault, and those after it.
 fn shown_of(
     alloc: Global,
-    form: Form,
-    names: FileNames<'_>,
+    style: Style<'_>,
     texts: Texts<'_>,
     steps: &[u8],
     fault: TextsFault,
 ) -> Result<Shown, AllocError>
-    ensures { IfOk result (IsShownOf form names.entry texts.entry steps.now (found.Faulty fault)) }
+    ensures { IfOk result (IsShownOf style.entry.form style.entry.names texts.entry steps.now (found.Faulty fault)) }
 {
     let finding = finding_at(alloc, texts, fault.file, fault.position, fault.kind)?;
     let further = further_faults(alloc, texts, fault, ROUNDS)?;
-    let out = printed_with(alloc, form, names, fault.file, &finding, &further)?;
+    let out = printed_with(alloc, style, fault.file, &finding, &further)?;
     Ok(Shown::Faulty(out))
 }
 
@@ -302,10 +313,9 @@ pub fn shown_fault(
 ) -> Result<Shown, AllocError>
     ensures { IfOk result (IsShown form names.entry texts.entry steps.now) }
 {
+    let style = Style { form, names };
     match found_in(alloc, texts.cfg, texts.src)? {
-        TextsVerdict::Faulty(fault) => shown_of(alloc, form, names, texts, steps, fault),
-        TextsVerdict::Sound(processors) => shown_behind(
-            alloc, form, names, texts, steps, processors,
-        ),
+        TextsVerdict::Faulty(fault) => shown_of(alloc, style, texts, steps, fault),
+        TextsVerdict::Sound(processors) => shown_of_steps(alloc, style, texts, steps, processors),
     }
 }

@@ -37,7 +37,7 @@ impl CallWalk {
     }
 
     /// The walk after a token.
-    pub fn behind(self, kind: TokenKind) -> CallWalk {
+    pub fn after(self, kind: TokenKind) -> CallWalk {
         match kind {
             TokenKind::Keyword(Keyword::Task | Keyword::Handler) => CallWalk {
                 body: BodyKind::begun_by(kind),
@@ -85,7 +85,7 @@ impl CallWalk {
     }
 
     /// The argument that begins after this symbol at a place, if it should not be just any number.
-    pub fn argument_behind(self, at: usize, symbol: Symbol) -> Option<WalkedArgument> {
+    pub fn argument_after(self, at: usize, symbol: Symbol) -> Option<WalkedArgument> {
         let service = match symbol {
             Symbol::LeftParen | Symbol::Comma if self.open == 1 => self.service?,
             _ => return None,

@@ -3,7 +3,11 @@
 //! expression; an index out of range; an expression that faults; a loop, a sleep or a wait for bits that nothing ends;
 //! a statement that nothing reaches; a call that a lock bars; a constant in a packet for which it is not; bodies and
 //! objects that nothing uses, signals, sets, sends to or receives from.
-ghost use Rattle.std.specs.Prelude.{◌≡◌, ◌<◌, ◌+◌, length, OnOk};
+ghost use Rattle.std.specs.Prelude.{◌≡◌, ◌<◌, ◌+◌, ◌++◌, length, IfOk, OnOk};
+ghost use Rattle.fmp_warnings.specs.Marks.{structure};
+ghost use Rattle.fmp_warnings.specs.Unreached.{WarnsOfUnreached};
+ghost use Rattle.fmp_warnings.specs.Warned.{ArePicked};
+ghost use Rattle.fmp_warnings.specs.Warnings.{AreWarningsOf};
 
 use crate::arithmetic::warn_of_arithmetic;
 use crate::bits::{note_bits, warn_of_bits};
@@ -45,7 +49,6 @@ impl Warnings {
     /// Warns of a mistake at a call, which stands at a token of the task text, if there is room.
     fn warn(
         &mut self,
-        alloc: Global,
         tokens: &Tokens<'_>,
         at: usize,
         mistake: Mistake,
@@ -57,9 +60,9 @@ impl Warnings {
             return Ok(());
         }
         self.room -= 1;
-        let mut sentence = Vec::new(alloc);
+        let mut sentence = Vec::new(found.alloc);
         say_mistake(mistake, &mut sentence)?;
-        found.warn(alloc, TextFile::Source, tokens, at, sentence)
+        found.warn(TextFile::Source, tokens, at, sentence)
     }
 
     /// What is wrong with a name as an argument, if anything is.
@@ -148,7 +151,6 @@ impl Warnings {
     /// Looks at the argument that begins after a token.
     fn look_at_argument(
         &mut self,
-        alloc: Global,
         tokens: &Tokens<'_>,
         argument: WalkedArgument,
         found: &mut FoundWarnings<'_>,
@@ -158,7 +160,7 @@ impl Warnings {
         match self.wrong(tokens, argument) {
             Some(wrong) => {
                 let mistake = Mistake::Argument(argument, wrong);
-                self.warn(alloc, tokens, argument.at, mistake, found)
+                self.warn(tokens, argument.at, mistake, found)
             }
             None => Ok(()),
         }
@@ -167,7 +169,6 @@ impl Warnings {
     /// Looks at the token at a place, which the walk has reached.
     fn look_at_token(
         &mut self,
-        alloc: Global,
         tokens: &Tokens<'_>,
         (at, kind): (usize, TokenKind),
         walk: CallWalk,
@@ -178,14 +179,14 @@ impl Warnings {
                 if !self.note_name(tokens, at, name, walk) {
                     return Ok(());
                 }
-                self.warn(alloc, tokens, at, Mistake::SharedWord(name), found)
+                self.warn(tokens, at, Mistake::SharedWord(name), found)
             }
             TokenKind::Service(service) => match walk.barred(service) {
-                Some(barred) => self.warn(alloc, tokens, at, Mistake::Barred(barred), found),
+                Some(barred) => self.warn(tokens, at, Mistake::Barred(barred), found),
                 None => Ok(()),
             },
-            TokenKind::Symbol(symbol) => match walk.argument_behind(at, symbol) {
-                Some(argument) => self.look_at_argument(alloc, tokens, argument, found),
+            TokenKind::Symbol(symbol) => match walk.argument_after(at, symbol) {
+                Some(argument) => self.look_at_argument(tokens, argument, found),
                 None => Ok(()),
             },
             _ => Ok(()),
@@ -195,17 +196,18 @@ impl Warnings {
     /// Walks over the calls of a task text, and finds its landmarks.
     fn calls(
         &mut self,
-        alloc: Global,
         tokens: &Tokens<'_>,
         found: &mut FoundWarnings<'_>,
-    ) -> Result<Landmarks, AllocError> {
-        let mut landmarks = Landmarks::new(alloc);
+    ) -> Result<Landmarks, AllocError>
+        ensures { IfOk result (λ landmarks. landmarks.structure.items ≡ structure tokens.now) }
+    {
+        let mut landmarks = Landmarks::new(found.alloc);
         let mut walk = CallWalk::new();
         for at in 0..tokens.len() {
             if let Some(kind) = tokens.kind(at) {
                 landmarks.note(at, kind)?;
-                walk = walk.behind(kind);
-                self.look_at_token(alloc, tokens, (at, kind), walk, found)?;
+                walk = walk.after(kind);
+                self.look_at_token(tokens, (at, kind), walk, found)?;
             }
         }
         Ok(landmarks)
@@ -239,21 +241,20 @@ fn body_beside(tokens: &Tokens<'_>, at: usize, entries: &[Name]) -> Option<Name>
 
 /// Warns of the bodies of a task text that no static API names.
 fn warn_of_bodies(
-    alloc: Global,
     entries: &[Name],
     (src, landmarks): (&Tokens<'_>, &Landmarks),
     found: &mut FoundWarnings<'_>,
 ) -> Result<(), AllocError> {
-    for place in &landmarks.structure {
-        let at = *place;
+    for mark in &landmarks.structure {
+        let at = mark.at;
         if let Some(body) = body_beside(src, at, entries) {
             let words = [
                 Word::Text("no static API names the body "),
                 Word::Name(body),
             ];
-            let mut sentence = Vec::new(alloc);
+            let mut sentence = Vec::new(found.alloc);
             say(&words, &mut sentence)?;
-            found.warn(alloc, TextFile::Source, src, at.saturating_add(1), sentence)?;
+            found.warn(TextFile::Source, src, at.saturating_add(1), sentence)?;
         }
     }
     Ok(())
@@ -297,19 +298,14 @@ impl Warnings {
     }
 
     /// Warns of the objects of a configuration that nothing uses, signals, sets, sends to or receives from.
-    fn neglected(
-        &self,
-        alloc: Global,
-        cfg: &Tokens<'_>,
-        found: &mut FoundWarnings<'_>,
-    ) -> Result<(), AllocError> {
+    fn neglected(&self, cfg: &Tokens<'_>, found: &mut FoundWarnings<'_>) -> Result<(), AllocError> {
         for object in &self.objects.list {
             if let Some(text) = self.neglect(cfg, object) {
                 let words = [Word::Name(object.name), Word::Text(text)];
-                let mut sentence = Vec::new(alloc);
+                let mut sentence = Vec::new(found.alloc);
                 say(&words, &mut sentence)?;
                 let name = object.at.saturating_add(2);
-                found.warn(alloc, TextFile::Configuration, cfg, name, sentence)?;
+                found.warn(TextFile::Configuration, cfg, name, sentence)?;
             }
         }
         Ok(())
@@ -326,47 +322,78 @@ impl Warnings {
         })
     }
 
-    /// Looks at the landmarks of the bodies.
-    fn look_at_bodies(
+    /// The warnings of locks, bits, sleeps and bodies, and of the constants and the objects of the configuration.
+    fn after_unreached(
         &self,
         alloc: Global,
-        (src, landmarks): (&Tokens<'_>, &Landmarks),
-        found: &mut FoundWarnings<'_>,
-    ) -> Result<(), AllocError> {
-        warn_of_indices(alloc, (src, landmarks), found)?;
-        warn_of_arithmetic(alloc, (src, landmarks), found)?;
-        warn_of_loops(alloc, (src, landmarks), found)?;
-        warn_of_unreached(alloc, (src, landmarks), found)?;
-        warn_of_locks(alloc, (src, landmarks), &self.objects, found)?;
-        warn_of_bits(alloc, (src, landmarks), &self.objects, found)
-    }
-
-    /// Looks at the tokens of both texts.
-    fn look(
-        &mut self,
-        alloc: Global,
+        texts: Texts<'_>,
         cfg: &Tokens<'_>,
-        src: &Tokens<'_>,
-        found: &mut FoundWarnings<'_>,
-    ) -> Result<(), AllocError> {
-        let landmarks = self.calls(alloc, src, found)?;
-        self.look_at_bodies(alloc, (src, &landmarks), found)?;
-        warn_of_sleeps(alloc, (src, &landmarks), &self.objects, found)?;
+        (src, landmarks): (&Tokens<'_>, &Landmarks),
+    ) -> Result<Vec<Warning>, AllocError> {
+        let mut found = FoundWarnings::new(alloc, texts);
+        warn_of_locks((src, landmarks), &self.objects, &mut found)?;
+        warn_of_bits((src, landmarks), &self.objects, &mut found)?;
+        warn_of_sleeps((src, landmarks), &self.objects, &mut found)?;
         let entries = entries(alloc, cfg)?;
-        warn_of_bodies(alloc, &entries, (src, &landmarks), found)?;
-        warn_of_constants(alloc, cfg, found)?;
-        self.neglected(alloc, cfg, found)
+        warn_of_bodies(&entries, (src, landmarks), &mut found)?;
+        warn_of_constants(cfg, &mut found)?;
+        self.neglected(cfg, &mut found)?;
+        Ok(found.list)
     }
+}
+
+/// Warns of indices, expressions and loops.
+fn warn_of_parts(
+    src: &Tokens<'_>,
+    landmarks: &Landmarks,
+    found: &mut FoundWarnings<'_>,
+) -> Result<(), AllocError> {
+    warn_of_indices((src, landmarks), found)?;
+    warn_of_arithmetic((src, landmarks), found)?;
+    warn_of_loops((src, landmarks), found)
+}
+
+/// The warnings of statements that nothing reaches.
+fn of_unreached(
+    alloc: Global,
+    texts: Texts<'_>,
+    src: &Tokens<'_>,
+    landmarks: &Landmarks,
+) -> Result<Vec<Warning>, AllocError>
+    ensures { IfOk result (λ ws. ArePicked (WarnsOfUnreached texts.entry.src.now src.now)
+        landmarks.now.structure.items ws.items) }
+{
+    let mut found = FoundWarnings::new(alloc, texts);
+    warn_of_unreached(src, landmarks, &mut found)?;
+    Ok(found.list)
+}
+
+/// Warnings, and others after them.
+fn joined(first: Vec<Warning>, more: Vec<Warning>) -> Result<Vec<Warning>, AllocError>
+    ensures { IfOk result (λ all. all.items ≡ first.items ++ more.items) }
+{
+    let mut all = first;
+    for warning in more {
+        all.push(warning)?;
+    }
+    Ok(all)
 }
 
 /// The warnings of two texts that have no fault. Each kind comes in order of text: at most 100 of calls, their
 /// arguments and shared words in expressions; of indices; of expressions; of loops; of statements that nothing reaches;
 /// of locks; of bits; of sleeps; of bodies; of the constants and then of the objects of the configuration. `AllocError`
 /// if memory runs out.
-pub fn warnings_of(alloc: Global, texts: Texts<'_>) -> Result<Vec<Warning>, AllocError> {
+pub fn warnings_of(alloc: Global, texts: Texts<'_>) -> Result<Vec<Warning>, AllocError>
+    ensures { IfOk result (λ ws. AreWarningsOf texts.entry ws.items) }
+{
     let cfg = list_of(alloc, texts.cfg)?;
     let src = list_of(alloc, texts.src)?;
     let mut found = FoundWarnings::new(alloc, texts);
-    Warnings::new(alloc, &cfg.tokens)?.look(alloc, &cfg.tokens, &src.tokens, &mut found)?;
-    Ok(found.list)
+    let mut seen = Warnings::new(alloc, &cfg.tokens)?;
+    let landmarks = seen.calls(&src.tokens, &mut found)?;
+    warn_of_parts(&src.tokens, &landmarks, &mut found)?;
+    let unreached = of_unreached(alloc, texts, &src.tokens, &landmarks)?;
+    let after = seen.after_unreached(alloc, texts, &cfg.tokens, (&src.tokens, &landmarks))?;
+    let more = joined(unreached, after)?;
+    joined(found.list, more)
 }

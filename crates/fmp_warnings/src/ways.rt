@@ -1,4 +1,5 @@
 //! The ways of an `if`: its blocks, and what happens without one. Does each of them give back what is held before it?
+use crate::landmarks::Mark;
 use fmp_base::Service;
 use fmp_lex::{Keyword, Symbol, TokenKind, Tokens};
 
@@ -10,11 +11,11 @@ pub fn gives_back(kind: TokenKind) -> bool {
     )
 }
 
-/// Whether something is given back in the block that begins at the first brace of these places.
-pub fn gives_back_in_block(tokens: &Tokens<'_>, places: &[usize]) -> bool {
+/// Whether something is given back in the block that begins at the first brace of these tokens.
+pub fn gives_back_in_block(tokens: &Tokens<'_>, marks: &[Mark]) -> bool {
     let mut depth: usize = 0;
-    for at in places {
-        match tokens.kind(*at) {
+    for mark in marks {
+        match tokens.kind(mark.at) {
             Some(TokenKind::Symbol(Symbol::LeftBrace)) => depth = depth.saturating_add(1),
             Some(TokenKind::Symbol(Symbol::RightBrace)) if depth <= 1 => return false,
             Some(TokenKind::Symbol(Symbol::RightBrace)) => depth = depth.saturating_sub(1),

@@ -1,4 +1,4 @@
-use Rattle.fmp_warnings.proofs.verdicts.shown_behind.Goals as goal
+use Rattle.fmp_warnings.proofs.verdicts.shown_of_steps.Goals as goal
 
 pub returns-in-Some : goal.returns-in-Some
 returns-in-Some c =

@@ -6,7 +6,7 @@ use fmp_lex::words::find_api;
 
 /// How far a construct was gone through.
 #[derive(Clone, Copy)]
-struct Behind {
+struct ConstructScan {
     file: TextFile,
     /// Where the construct begins.
     from: usize,
@@ -25,11 +25,11 @@ struct Behind {
     is_value: bool,
 }
 
-impl Behind {
-    /// The construct that begins at a place.
-    fn new(text: &[u8], from: usize, file: TextFile) -> Behind {
+impl ConstructScan {
+    /// The construct that begins at a position.
+    fn new(text: &[u8], from: usize, file: TextFile) -> ConstructScan {
         let word = word_at(text, from);
-        Behind {
+        ConstructScan {
             file,
             from,
             is_for: is_word(word, b"for"),
@@ -42,7 +42,7 @@ impl Behind {
         }
     }
 
-    /// Whether the word at a place begins another construct: a body or a class, or outside classes a static API.
+    /// Whether the word at a position begins another construct: a body or a class, or outside classes a static API.
     fn is_next(&self, text: &[u8], at: usize) -> bool {
         let word = word_at(text, at);
         let is_outside = self.blocks == 0 && !self.is_class;
@@ -56,7 +56,7 @@ impl Behind {
         self.parens = 0;
     }
 
-    /// A block closes before this place: the construct ends where that is none of its own, and a class with it.
+    /// A block closes before this position: the construct ends where that is none of its own, and a class with it.
     fn close(&mut self, at: usize) -> Option<usize> {
         if self.blocks == 0 {
             return Some(if self.is_class {
@@ -72,7 +72,7 @@ impl Behind {
         None
     }
 
-    /// A semicolon stands at this place. In a class it ends a static API, whose parentheses end with it.
+    /// A semicolon stands at this position. In a class it ends a static API, whose parentheses end with it.
     fn semicolon(&mut self, at: usize) -> Option<usize> {
         if self.is_class {
             self.parens = 0;
@@ -84,7 +84,7 @@ impl Behind {
         None
     }
 
-    /// Where the construct ends, if it does at the piece that begins at this place or before it.
+    /// Where the construct ends, if it does at the piece that begins at this position or before it.
     fn end(&mut self, text: &[u8], at: usize, piece: Piece) -> Option<usize> {
         match piece {
             Piece::Semicolon => return self.semicolon(at),
@@ -111,38 +111,16 @@ impl Behind {
     }
 }
 
-/// Where the construct ends that begins at a place of one of the texts; nowhere if the text ends first.
-pub fn end_behind(text: &[u8], from: usize, file: TextFile) -> Option<usize> {
-    let mut behind = Behind::new(text, from, file);
+/// Where the construct ends that begins at a position of one of the texts; nowhere if the text ends first.
+pub fn construct_end(text: &[u8], from: usize, file: TextFile) -> Option<usize> {
+    let mut scan = ConstructScan::new(text, from, file);
     let mut pieces = Pieces::new();
     for at in from..text.len() {
         if let Some(piece) = pieces.take(byte_at(text, at), byte_at(text, at.saturating_add(1))) {
-            if let Some(end) = behind.take(text, at, piece) {
+            if let Some(end) = scan.take(text, at, piece) {
                 return Some(end);
             }
         }
     }
-    behind.closed
-}
-
-/// Where the next body begins, from a place on.
-pub fn next_body(text: &[u8], from: usize) -> Option<usize> {
-    let mut pieces = Pieces::new();
-    for at in from..text.len() {
-        let piece = pieces.take(byte_at(text, at), byte_at(text, at.saturating_add(1)));
-        if piece == Some(Piece::Word) && begins_unit(word_at(text, at), TextFile::Source) {
-            return Some(at);
-        }
-    }
-    None
-}
-
-/// Where the line ends in which a place stands.
-pub fn line_end(text: &[u8], from: usize) -> usize {
-    for at in from..text.len() {
-        if byte_at(text, at) == b'\n' {
-            return at;
-        }
-    }
-    text.len()
+    scan.closed
 }
