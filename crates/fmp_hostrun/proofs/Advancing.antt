@@ -18,7 +18,7 @@ use Rattle.fmp_board.specs.Boards.{IsAt}
 use Rattle.fmp_replay.specs.Replays.{kernel_after}
 use Rattle.fmp_replay.proofs.Replaying.{setup_replays}
 use Rattle.fmp_hostrun.specs.Followers.{Continues, Follows, IsFollowing, followed_text, kernel_over, reaction_text}
-use Rattle.fmp_hostrun.proofs.Following.{SameRun, followed_last, followed_none, nothing_behind, same_run, taken_few}
+use Rattle.fmp_hostrun.proofs.Following.{SameRun, followed_last, followed_none, nothing_after, same_run, taken_few}
 use Rattle.fmp_hostrun.proofs.Following.{view_last}
 
 abbrev Kernels : Type 0
@@ -142,9 +142,9 @@ pub prints_nothing : (i : ImageTables) (n : ℕ) (capacity : ℕ) (old new : Sea
 prints_nothing i n capacity old new out next f same =
     record {
       more = [];
-      appended = same ∙ sym (nothing_behind out);
+      appended = same ∙ sym (nothing_after out);
       goes_on = ap (λ (es : List Event). followed_text i n es) (same_given capacity old new f)
-          ∙ sym (nothing_behind (followed_text i n (given old)));
+          ∙ sym (nothing_after (followed_text i n (given old)));
     }
 
 -- setup's lines are the text over no event

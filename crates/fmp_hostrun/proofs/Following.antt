@@ -14,16 +14,16 @@ use Rattle.fmp_image_bytes.specs.Images.{ImageTables}
 use Rattle.fmp_kernel.specs.KernelViews.{KernelView, view_after, view_after_all, view_of_setup}
 use Rattle.fmp_hostrun.specs.Followers.{followed_text, kernel_over, reaction_text}
 
-pub nothing_behind : (xs : List ℕ) → xs ++ [] ≡ xs
-nothing_behind [] = refl
-nothing_behind (x ∷ xs) = ap (λ (ys : List ℕ). x ∷ ys) (nothing_behind xs)
+pub nothing_after : (xs : List ℕ) → xs ++ [] ≡ xs
+nothing_after [] = refl
+nothing_after (x ∷ xs) = ap (λ (ys : List ℕ). x ∷ ys) (nothing_after xs)
 
 module _ {B C : Type 0} (meaning : B → Meaning C) where
   -- the text of the events of a list that are done on a kernel
   abbrev pub text_of : KernelView B C → List Event → List ℕ
   text_of k es = events_text k.system (k.done + 1) (run k.system (meaning k.body) k.bound k.world es).events
 
-  -- and of what it does at one more behind them
+  -- and of what it does at one more after them
   abbrev pub next_of : KernelView B C → List Event → Event → List ℕ
   next_of k es e =
       let v = view_after_all meaning k es in
@@ -32,7 +32,7 @@ module _ {B C : Type 0} (meaning : B → Meaning C) where
   of_one : (sys : SystemTables) (number : ℕ) (w : World C) (r : Reaction C)
       → events_text sys number (run_on w r (λ v. record { world = v; events = [] })).events ≡ reaction_text sys number r
   of_one sys number w Nothing = refl
-  of_one sys number w (Did d) = nothing_behind (lines_text sys number d.lines)
+  of_one sys number w (Did d) = nothing_after (lines_text sys number d.lines)
   of_one sys number w (Kept p v) = refl
 
   of_first : (k : KernelView B C) (es : List Event) (e : Event) (r : Reaction C)
@@ -137,7 +137,7 @@ followed_last i n es e =
 pub followed_none : (i : ImageTables) (n : ℕ) → followed_text i n []
     ≡ lines_text i.system 0 (setup i.system (code_meaning i.code)).lines
 unfolding followed_text
-followed_none i n = nothing_behind (lines_text i.system 0 (setup i.system (code_meaning i.code)).lines)
+followed_none i n = nothing_after (lines_text i.system 0 (setup i.system (code_meaning i.code)).lines)
 
 -- what a system prints is the text over the events, and then the states
 pub front : (i : ImageTables) (n : ℕ) (es : List Event)

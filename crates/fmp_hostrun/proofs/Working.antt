@@ -1,6 +1,6 @@
 -- What a thread has added to the journal by its seat.
-use Rattle.std.proofs.Common.{◌≡◌, ◌≢◌, ◌⊎◌, inl, inr, ℕ, zero, suc, ◌+◌, ◌<◌, ◌≤◌, ◌==◌, Bool, true, false, cond, List}
-use Rattle.std.proofs.Common.{[], ◌∷◌, ◌++◌, Option, Some, None, Result, Ok, Err, length, replicate, refl, sym, ap, ◌∙◌}
+use Rattle.std.proofs.Common.{◌≡◌, ◌≢◌, ◌⊎◌, inl, inr, ℕ, zero, suc, ◌+◌, ◌<◌, ◌≤◌, ◌==◌, List}
+use Rattle.std.proofs.Common.{[], ◌∷◌, ◌++◌, Some, None, Result, Ok, Err, length, replicate, refl, sym, ap, ◌∙◌}
 use Rattle.std.proofs.Common.{subst, append_assoc, arith, length-append}
 use Rattle.std.specs.Prelude.{IfErr}
 use Rattle.std.proofs.lemmas.List.{append-nil, length-replicate}
@@ -353,22 +353,22 @@ did_none i n row p was now v same none = record {
   over = refl;
 }
 
--- behind a list that was seen stands at least one more
-behind : (P : List JournalEntry → Type 0) (seen before : List JournalEntry) → IsPrefix seen before → P seen
+-- after a list that was seen stands at least one more
+one_after : (P : List JournalEntry → Type 0) (seen before : List JournalEntry) → IsPrefix seen before → P seen
     → (P before → ⊥) → length seen < length before
-behind P seen before p here gone = by_rest p.0 p.1
+one_after P seen before p here gone = by_rest p.0 p.1
   where
     by_rest : (rest : List JournalEntry) → seen ++ rest ≡ before → length seen < length before
     by_rest [] is = absurd (gone (subst P (sym (append-nil seen) ∙ is) here))
     by_rest (x ∷ rest) is = omega (arith, ap length is, length-append seen (x ∷ rest))
 
--- a stretch is refused as stale only behind an event that came after the draw
-stale_behind : (i : ImageTables) (n : ℕ) (row : RowId) (t : TicketState) (drawn now : SeatState)
+-- a stretch is refused as stale only after an event that came after the draw
+stale_after : (i : ImageTables) (n : ℕ) (row : RowId) (t : TicketState) (drawn now : SeatState)
     → actor_after i n drawn.seen t.processor ≡ Some t.actor
     → Submitted i n row t drawn now (Err fault.Stale) → length drawn.seen < length now.seen
-stale_behind i n row t drawn now there s =
+stale_after i n row t drawn now there s =
     let other : stamp_after i n s.0 t.processor ≢ t.actor.stamp = λ same. absurd (cc ((s.3.full same).0)) in
-    let more = behind (λ xs. stamp_after i n xs t.processor ≡ t.actor.stamp) drawn.seen s.0 s.2
+    let more = one_after (λ xs. stamp_after i n xs t.processor ≡ t.actor.stamp) drawn.seen s.0 s.2
     (stamp_of_actor i n drawn.seen t.processor t.actor there) other in
     omega (arith, more, ap length s.4)
 
@@ -397,7 +397,7 @@ did_submitted i n row p t was drawn now answer v same d w mine s stale =
     by_answer (Ok receipt) is s = tt
     by_answer (Err f) is s = (
       is,
-      stale_behind i n row t drawn now there
+      stale_after i n row t drawn now there
           (subst (λ (g : BoardFault). Submitted i n row t drawn now (Err g)) is s),
     )
 

@@ -8,7 +8,7 @@ ghost use Rattle.fmp_hostrun.specs.Works.{both, gave, job_of, load_of, mine_of, 
 ghost use Rattle.fmp_board.specs.declared.fault.BoardFault.TheVariants.{Full, Held, Limit, Stale};
 
 use crate::feed::Feed;
-use crate::turns::{Gate, Load, Pace, ThreadPart, ThreadWork, Unpaced, work};
+use crate::turns::{Gate, Host, Load, Pace, ThreadPart, ThreadWork, Unpaced};
 use fmp_board::{Board, BoardFault, Site};
 use fmp_journal::Seat;
 use std::alloc::{AllocError, Global};
@@ -83,7 +83,7 @@ fn with_seats(mut back: Vec<Seat>, more: Vec<Seat>) -> Vec<Seat>
     back
 }
 
-/// The lists that the threads of a board need, with room for each of its seats.
+/// Lists for threads of a board, with room for this many.
 #[derive(Drop)]
 struct Lists<B: Feed, G: Gate> {
     handles: Handles<B, G>,
@@ -105,37 +105,46 @@ impl<B: Feed, G: Gate> Lists<B, G> {
     }
 }
 
+/// The seats for which threads are to be started, at most 257, and the lists that this needs, each with room for all of
+/// them.
+#[derive(Drop)]
+struct Crew<B: Feed, G: Gate> {
+    seats: Vec<Seat>,
+    lists: Lists<B, G>,
+    ghost few: { vec_len seats ≤ 257 },
+    ghost handles: { (lists.handles.items ≡ []) × (vec_len seats ≤ vec_capacity lists.handles) },
+    ghost spared: { (lists.spared.items ≡ []) × (vec_len seats ≤ vec_capacity lists.spared) },
+    ghost back: { (lists.back.items ≡ []) × (vec_len seats ≤ vec_capacity lists.back) },
+}
+
 /// A thread for each seat: they are started one after the other, and joined. Once a thread is refused, no more are
 /// started.
 fn run_threads<B: Feed + Sync, G: Gate, P: Pace, R: Threads + Wait + Sync>(
-    rt: &R,
-    board: &B,
-    gate: &G,
-    pace: &P,
-    seats: Vec<Seat>,
-    lists: Lists<B, G>,
+    host: &Host<'_, B, G, P, R>,
+    crew: Crew<B, G>,
     load: Load,
 ) -> (Vec<Seat>, Result<u32, BoardFault>)
     requires room { B.row_id.capacity ≤ 2 ^ 20 }
-    requires few { vec_len seats ≤ 257 }
-    requires seats { All (IsAt B.row_id) seats.items }
-    requires handles { (lists.handles.items ≡ []) × (vec_len seats ≤ vec_capacity lists.handles) }
-    requires spared { (lists.spared.items ≡ []) × (vec_len seats ≤ vec_capacity lists.spared) }
-    requires back { (lists.back.items ≡ []) × (vec_len seats ≤ vec_capacity lists.back) }
-    ensures { AreRun B.image B.bound B.row_id G.is_open load seats.items result.0.items result.1 }
+    requires seats { All (IsAt B.row_id) crew.seats.items }
+    ensures { AreRun B.image B.bound B.row_id G.is_open load crew.seats.items result.0.items result.1 }
 {
+    let Host {
+        rt,
+        board,
+        gate,
+        pace,
+    } = *host;
     thread::scope(
         thread::scope_env(),
         rt,
         move |scope| -> (Vec<Seat>, Result<u32, BoardFault>)
             requires room { B.row_id.capacity ≤ 2 ^ 20 }
-            requires few { vec_len seats ≤ 257 }
-            requires seats { All (IsAt B.row_id) seats.items }
-            requires handles { (lists.handles.items ≡ []) × (vec_len seats ≤ vec_capacity lists.handles) }
-            requires spared { (lists.spared.items ≡ []) × (vec_len seats ≤ vec_capacity lists.spared) }
-            requires back { (lists.back.items ≡ []) × (vec_len seats ≤ vec_capacity lists.back) }
-            ensures { AreRun B.image B.bound B.row_id G.is_open load seats.items result.0.items result.1 }
+            requires seats { All (IsAt B.row_id) crew.seats.items }
+            ensures { AreRun B.image B.bound B.row_id G.is_open load crew.seats.items result.0.items result.1 }
         {
+            // The whole crew goes into the scope: its type says that its lists have room.
+            let crew = crew;
+            let Crew { seats, lists } = crew;
             let Lists {
                 mut handles,
                 mut spared,
@@ -160,7 +169,15 @@ fn run_threads<B: Feed + Sync, G: Gate, P: Pace, R: Threads + Wait + Sync>(
                         requires { IsAt B.row_id seat }
                         ensures { GaveBack B.image B.bound B.row_id G.is_open (job_of part seat)
                             (gave result.seat result.journaled) }
-                    { work(rt, board, gate, pace, seat, part) },
+                    {
+                        let host = Host {
+                            rt,
+                            board,
+                            gate,
+                            pace,
+                        };
+                        host.work(seat, part)
+                    },
                 );
                 match started {
                     Ok(handle) => handles.push_reserved(handle),
@@ -183,11 +200,8 @@ fn run_threads<B: Feed + Sync, G: Gate, P: Pace, R: Threads + Wait + Sync>(
 
 /// Runs a board by threads, one for each seat, where there is memory for their lists.
 fn run_seats<S: Site + Send + Sync, G: Gate, P: Pace, R: Threads + Wait + Sync>(
-    rt: &R,
+    host: &Host<'_, Board<'_, S>, G, P, R>,
     alloc: Global,
-    board: &Board<'_, S>,
-    gate: &G,
-    pace: &P,
     seats: Vec<Seat>,
     load: Load,
 ) -> (Vec<Seat>, Result<u32, BoardFault>)
@@ -208,9 +222,9 @@ fn run_seats<S: Site + Send + Sync, G: Gate, P: Pace, R: Threads + Wait + Sync>(
         return (seats, Err(BoardFault::Memory));
     };
     // It is at most 2^20, so a u32 holds the sum of the counts of all threads.
-    board.capacity();
-    pace.begins(seats.len());
-    run_threads(rt, board, gate, pace, seats, lists, load)
+    host.board.capacity();
+    host.pace.begins(seats.len());
+    run_threads(host, Crew { seats, lists }, load)
 }
 
 /// Runs a board by threads: one for each processor takes the turns, one more feeds the ticks, and one the interrupts,
@@ -255,7 +269,13 @@ pub fn run_paced<S: Site + Send + Sync, G: Gate, P: Pace, R: Threads + Wait + Sy
     if seats.len() != processors as usize + 2 {
         return (seats, Err(BoardFault::Limit));
     }
-    run_seats(rt, alloc, board, gate, pace, seats, load)
+    let host = Host {
+        rt,
+        board,
+        gate,
+        pace,
+    };
+    run_seats(&host, alloc, seats, load)
 }
 
 /// Runs a board by threads as `run_paced` does, without interrupts and as fast as it goes: a turn in which a processor
@@ -296,5 +316,11 @@ pub fn run_all<S: Site + Send + Sync, G: Gate, R: Threads + Wait + Sync>(
         interrupt: 0,
         interrupts: 0,
     };
-    run_seats(rt, alloc, board, gate, &Unpaced, seats, load)
+    let host = Host {
+        rt,
+        board,
+        gate,
+        pace: &Unpaced,
+    };
+    run_seats(&host, alloc, seats, load)
 }

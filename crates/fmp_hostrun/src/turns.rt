@@ -167,200 +167,13 @@ fn tell<P: Pace>(pace: &P, event: Event, receipt: &Receipt) -> bool
     entered
 }
 
-/// Looks for the next stretch of processor p, in a workspace, until it has one or its pace says that it does not look
-/// again: whether it has.
-#[tactic(auto, using(crate::proofs::Working::visited_on))]
-fn look<B: Feed, P: Pace, R: Wait>(
-    rt: &R,
-    board: &B,
-    pace: &P,
-    seat: &mut Seat,
-    workspace: &mut Workspace,
-    p: u8,
-) -> bool
-    requires at { IsAt B.row_id seat.old }
-    ensures at { IsAt B.row_id seat.new }
-    ensures visited { Visited B.image B.bound B.row_id seat.old seat.new }
-    ensures mine { seat.new.mine ≡ seat.old.mine }
-    ensures made { MatchBool result
-        (IsOutcome workspace.new × Drew B.image B.bound seat.new.seen p (Some workspace.new.ticket)
-        × IsDrawn B.image B.bound seat.new.seen workspace.new.ticket)
-        (Drew B.image B.bound seat.new.seen p None) }
-{
-    let mut moment = pace.moment();
-    let mut found = board.stretch(rt, seat, p, workspace);
-    for _look in 0..MOST_LOOKS {
-        if found || !pace.looks_again(moment) {
-            return found;
-        }
-        moment = pace.moment();
-        found = board.stretch(rt, seat, p, workspace);
-    }
-    found
-}
-
-/// A turn of processor p, counted from 1: whether an event was journaled. Its stretch is made outside the board's lock,
-/// and handed in once the gate lets the turn go on; a stale one is dropped. Without an actor the turn is over, once the
-/// pace says so.
-#[tactic(auto, using(crate::proofs::Working::did_none))]
-fn take_turn<B: Feed, G: Gate, P: Pace, R: Wait>(
-    rt: &R,
-    board: &B,
-    gate: &G,
-    pace: &P,
-    seat: &mut Seat,
-    workspace: &mut Workspace,
-    p: u8,
-    turn: u32,
-) -> Result<bool, BoardFault>
-    requires { IsAt B.row_id seat.old }
-    ensures at { IsAt B.row_id seat.new }
-    ensures added { Added B.image B.bound B.row_id (Run p) 1 seat.old seat.new }
-    ensures did { IfOk result (λ _. DidOnce B.image B.bound B.row_id (Run p) seat.old seat.new) }
-    ensures mine { IfOk result (λ entered. seat.new.mine ≡ seat.old.mine + cond entered 1 0) }
-    ensures stopped { IfErr result (λ f. (seat.new.mine ≡ seat.old.mine)
-        × IsWhyStopped B.row_id G.is_open (Run p) seat.new f) }
-{
-    if !look(rt, board, pace, seat, workspace, p) {
-        return Ok(false);
-    }
-    if !is_let(gate, p, turn) {
-        return Err(BoardFault::Held);
-    }
-    let answer = board.submit(rt, seat, workspace);
-    gate.answered(p, turn);
-    match answer {
-        Ok(receipt) => Ok(tell(pace, Event::Run(p), &receipt)),
-        Err(BoardFault::Stale) => Ok(false),
-        Err(fault) => Err(fault),
-    }
-}
-
-/// The turns of processor p: how many of its events were journaled.
-#[tactic(auto, using(crate::proofs::Working::added_begin, crate::proofs::Working::added_more, crate::proofs::Working::added_last, crate::proofs::Working::added_enough, crate::proofs::Working::did_begin, crate::proofs::Working::did_more, crate::proofs::Working::did_turns))]
-fn run_turns<B: Feed, G: Gate, P: Pace, R: Wait>(
-    rt: &R,
-    board: &B,
-    gate: &G,
-    pace: &P,
-    seat: &mut Seat,
-    p: u8,
-    turns: u32,
-) -> Result<u32, BoardFault>
-    requires { IsAt B.row_id seat.old }
-    ensures at { IsAt B.row_id seat.new }
-    ensures added { Added B.image B.bound B.row_id (Run p) turns seat.old seat.new }
-    ensures finished { IfOk result (λ journaled. DidPart B.image B.bound B.row_id (Run p) turns seat.old seat.new
-        × (seat.new.mine ≡ seat.old.mine + journaled)) }
-    ensures stopped { IfErr result (λ f. (seat.new.mine < seat.old.mine + turns)
-        × IsWhyStopped B.row_id G.is_open (Run p) seat.new f) }
-{
-    let mut workspace = board.workspace();
-    let mut journaled = 0;
-    for turn in 0..turns {
-        if take_turn(rt, board, gate, pace, seat, &mut workspace, p, turn + 1)? {
-            journaled += 1;
-        }
-    }
-    Ok(journaled)
-}
-
-/// Feeds an event: whether it was journaled.
-fn feed_once<B: Feed, P: Pace, R: Wait>(
-    rt: &R,
-    board: &B,
-    pace: &P,
-    seat: &mut Seat,
-    event: Event,
-) -> Result<bool, BoardFault>
-    requires at { IsAt B.row_id seat.old }
-    requires fed { IsFed event }
-    ensures at { IsAt B.row_id seat.new }
-    ensures added { Added B.image B.bound B.row_id event 1 seat.old seat.new }
-    ensures did { IfOk result (λ _. DidOnce B.image B.bound B.row_id event seat.old seat.new) }
-    ensures mine { IfOk result (λ entered. seat.new.mine ≡ seat.old.mine + cond entered 1 0) }
-    ensures stopped { IfErr result (λ f. (seat.new.mine ≡ seat.old.mine) × (f ≡ Full)
-        × (length seat.new.seen ≡ B.row_id.capacity)) }
-{
-    let receipt = board.feed(rt, seat, event)?;
-    Ok(tell(pace, event, &receipt))
-}
-
-/// Feeds the ticks, each when the pace says so: how many were journaled.
-#[tactic(auto, using(crate::proofs::Working::added_begin, crate::proofs::Working::added_more, crate::proofs::Working::added_last, crate::proofs::Working::added_enough, crate::proofs::Working::did_begin, crate::proofs::Working::did_more, crate::proofs::Working::did_ticks))]
-fn feed_ticks<B: Feed, P: Pace, R: Wait>(
-    rt: &R,
-    board: &B,
-    pace: &P,
-    seat: &mut Seat,
-    ticks: u32,
-) -> Result<u32, BoardFault>
-    requires { IsAt B.row_id seat.old }
-    ensures at { IsAt B.row_id seat.new }
-    ensures added { Added B.image B.bound B.row_id Tick ticks seat.old seat.new }
-    ensures finished { IfOk result (λ journaled. DidPart B.image B.bound B.row_id Tick ticks seat.old seat.new
-        × (seat.new.mine ≡ seat.old.mine + journaled)) }
-    ensures stopped { IfErr result (λ f. (seat.new.mine < seat.old.mine + ticks)
-        × (f ≡ Full) × (length seat.new.seen ≡ B.row_id.capacity)) }
-{
-    let mut journaled = 0;
-    for tick in 0..ticks {
-        pace.before_tick(tick + 1);
-        if feed_once(rt, board, pace, seat, Event::Tick)? {
-            journaled += 1;
-        }
-    }
-    Ok(journaled)
-}
-
-/// Feeds this interrupt each time that it comes, at most `most` times: how many were journaled.
-#[tactic(auto, using(crate::proofs::Working::added_begin, crate::proofs::Working::added_more, crate::proofs::Working::added_last, crate::proofs::Working::added_enough, crate::proofs::Working::did_begin, crate::proofs::Working::did_more, crate::proofs::Working::did_some))]
-fn feed_interrupts<B: Feed, P: Pace, R: Wait>(
-    rt: &R,
-    board: &B,
-    pace: &P,
-    seat: &mut Seat,
-    interrupt: u8,
-    most: u32,
-) -> Result<u32, BoardFault>
-    requires { IsAt B.row_id seat.old }
-    ensures at { IsAt B.row_id seat.new }
-    ensures added { Added B.image B.bound B.row_id (Int interrupt) most seat.old seat.new }
-    ensures finished { IfOk result (λ journaled. DidPart B.image B.bound B.row_id (Int interrupt) most seat.old seat.new
-        × (seat.new.mine ≡ seat.old.mine + journaled)) }
-    ensures stopped { IfErr result (λ f. (seat.new.mine < seat.old.mine + most)
-        × (f ≡ Full) × (length seat.new.seen ≡ B.row_id.capacity)) }
-{
-    let mut journaled = 0;
-    for _time in 0..most {
-        if !pace.interrupt_comes() {
-            return Ok(journaled);
-        }
-        if feed_once(rt, board, pace, seat, Event::Int(interrupt))? {
-            journaled += 1;
-        }
-    }
-    Ok(journaled)
-}
-
-/// Does a thread's part: how many of its events were journaled.
-fn run_part<B: Feed, G: Gate, P: Pace, R: Wait>(
-    rt: &R,
-    board: &B,
-    gate: &G,
-    pace: &P,
-    seat: &mut Seat,
-    part: ThreadPart,
-) -> Result<u32, BoardFault>
-    requires { IsAt B.row_id seat.old }
-    ensures at { IsAt B.row_id seat.new }
-    ensures gave { GaveBack B.image B.bound B.row_id G.is_open (job_of part seat.old) (gave seat.new result) }
-{
-    match part.event {
-        Event::Run(p) => run_turns(rt, board, gate, pace, seat, p, part.times),
-        Event::Tick => feed_ticks(rt, board, pace, seat, part.times),
-        Event::Int(interrupt) => feed_interrupts(rt, board, pace, seat, interrupt, part.times),
-    }
+/// What the threads of a board share: the runtime, the board, its gate, and its pace.
+#[derive(Drop)]
+pub(crate) struct Host<'a, B: Feed, G: Gate, P: Pace, R: Wait> {
+    pub rt: &'a R,
+    pub board: &'a B,
+    pub gate: &'a G,
+    pub pace: &'a P,
 }
 
 /// What a thread of a board gives back.
@@ -371,20 +184,168 @@ pub(crate) struct ThreadWork {
     pub journaled: Result<u32, BoardFault>,
 }
 
-/// Does a thread's part with its seat, and gives the seat back.
-pub(crate) fn work<B: Feed, G: Gate, P: Pace, R: Wait>(
-    rt: &R,
-    board: &B,
-    gate: &G,
-    pace: &P,
-    mut seat: Seat,
-    part: ThreadPart,
-) -> ThreadWork
-    requires { IsAt B.row_id seat }
-    ensures { GaveBack B.image B.bound B.row_id G.is_open (job_of part seat)
-        (gave result.seat result.journaled) }
-{
-    let journaled = run_part(rt, board, gate, pace, &mut seat, part);
-    pace.ended();
-    ThreadWork { seat, journaled }
+impl<'a, B: Feed, G: Gate, P: Pace, R: Wait> Host<'a, B, G, P, R> {
+    /// Looks for the next stretch of processor p, in a workspace, until it has one or its pace says that it does not
+    /// look again: whether it has.
+    #[tactic(auto, using(crate::proofs::Working::visited_on))]
+    fn look(&self, seat: &mut Seat, workspace: &mut Workspace, p: u8) -> bool
+        requires at { IsAt B.row_id seat.old }
+        ensures at { IsAt B.row_id seat.new }
+        ensures visited { Visited B.image B.bound B.row_id seat.old seat.new }
+        ensures mine { seat.new.mine ≡ seat.old.mine }
+        ensures made { MatchBool result
+            (IsOutcome workspace.new × Drew B.image B.bound seat.new.seen p (Some workspace.new.ticket)
+            × IsDrawn B.image B.bound seat.new.seen workspace.new.ticket)
+            (Drew B.image B.bound seat.new.seen p None) }
+    {
+        let mut moment = self.pace.moment();
+        let mut found = self.board.stretch(self.rt, seat, p, workspace);
+        for _look in 0..MOST_LOOKS {
+            if found || !self.pace.looks_again(moment) {
+                return found;
+            }
+            moment = self.pace.moment();
+            found = self.board.stretch(self.rt, seat, p, workspace);
+        }
+        found
+    }
+
+    /// A turn of processor p, counted from 1: whether an event was journaled. Its stretch is made outside the board's
+    /// lock, and handed in once the gate lets the turn go on; a stale one is dropped. Without an actor the turn is
+    /// over, once the pace says so.
+    #[tactic(auto, using(crate::proofs::Working::did_none))]
+    fn take_turn(
+        &self,
+        seat: &mut Seat,
+        workspace: &mut Workspace,
+        p: u8,
+        turn: u32,
+    ) -> Result<bool, BoardFault>
+        requires { IsAt B.row_id seat.old }
+        ensures at { IsAt B.row_id seat.new }
+        ensures added { Added B.image B.bound B.row_id (Run p) 1 seat.old seat.new }
+        ensures did { IfOk result (λ _. DidOnce B.image B.bound B.row_id (Run p) seat.old seat.new) }
+        ensures mine { IfOk result (λ entered. seat.new.mine ≡ seat.old.mine + cond entered 1 0) }
+        ensures stopped { IfErr result (λ f. (seat.new.mine ≡ seat.old.mine)
+            × IsWhyStopped B.row_id G.is_open (Run p) seat.new f) }
+    {
+        if !self.look(seat, workspace, p) {
+            return Ok(false);
+        }
+        if !is_let(self.gate, p, turn) {
+            return Err(BoardFault::Held);
+        }
+        let answer = self.board.submit(self.rt, seat, workspace);
+        self.gate.answered(p, turn);
+        match answer {
+            Ok(receipt) => Ok(tell(self.pace, Event::Run(p), &receipt)),
+            Err(BoardFault::Stale) => Ok(false),
+            Err(fault) => Err(fault),
+        }
+    }
+
+    /// The turns of processor p: how many of its events were journaled.
+    #[tactic(auto, using(crate::proofs::Working::added_begin, crate::proofs::Working::added_more, crate::proofs::Working::added_last, crate::proofs::Working::added_enough, crate::proofs::Working::did_begin, crate::proofs::Working::did_more, crate::proofs::Working::did_turns))]
+    fn run_turns(&self, seat: &mut Seat, p: u8, turns: u32) -> Result<u32, BoardFault>
+        requires { IsAt B.row_id seat.old }
+        ensures at { IsAt B.row_id seat.new }
+        ensures added { Added B.image B.bound B.row_id (Run p) turns seat.old seat.new }
+        ensures finished { IfOk result (λ journaled. DidPart B.image B.bound B.row_id (Run p) turns seat.old seat.new
+            × (seat.new.mine ≡ seat.old.mine + journaled)) }
+        ensures stopped { IfErr result (λ f. (seat.new.mine < seat.old.mine + turns)
+            × IsWhyStopped B.row_id G.is_open (Run p) seat.new f) }
+    {
+        let mut workspace = self.board.workspace();
+        let mut journaled = 0;
+        for turn in 0..turns {
+            if self.take_turn(seat, &mut workspace, p, turn + 1)? {
+                journaled += 1;
+            }
+        }
+        Ok(journaled)
+    }
+
+    /// Feeds an event: whether it was journaled.
+    fn feed_once(&self, seat: &mut Seat, event: Event) -> Result<bool, BoardFault>
+        requires at { IsAt B.row_id seat.old }
+        requires fed { IsFed event }
+        ensures at { IsAt B.row_id seat.new }
+        ensures added { Added B.image B.bound B.row_id event 1 seat.old seat.new }
+        ensures did { IfOk result (λ _. DidOnce B.image B.bound B.row_id event seat.old seat.new) }
+        ensures mine { IfOk result (λ entered. seat.new.mine ≡ seat.old.mine + cond entered 1 0) }
+        ensures stopped { IfErr result (λ f. (seat.new.mine ≡ seat.old.mine) × (f ≡ Full)
+            × (length seat.new.seen ≡ B.row_id.capacity)) }
+    {
+        let receipt = self.board.feed(self.rt, seat, event)?;
+        Ok(tell(self.pace, event, &receipt))
+    }
+
+    /// Feeds the ticks, each when the pace says so: how many were journaled.
+    #[tactic(auto, using(crate::proofs::Working::added_begin, crate::proofs::Working::added_more, crate::proofs::Working::added_last, crate::proofs::Working::added_enough, crate::proofs::Working::did_begin, crate::proofs::Working::did_more, crate::proofs::Working::did_ticks))]
+    fn feed_ticks(&self, seat: &mut Seat, ticks: u32) -> Result<u32, BoardFault>
+        requires { IsAt B.row_id seat.old }
+        ensures at { IsAt B.row_id seat.new }
+        ensures added { Added B.image B.bound B.row_id Tick ticks seat.old seat.new }
+        ensures finished { IfOk result (λ journaled. DidPart B.image B.bound B.row_id Tick ticks seat.old seat.new
+            × (seat.new.mine ≡ seat.old.mine + journaled)) }
+        ensures stopped { IfErr result (λ f. (seat.new.mine < seat.old.mine + ticks)
+            × (f ≡ Full) × (length seat.new.seen ≡ B.row_id.capacity)) }
+    {
+        let mut journaled = 0;
+        for tick in 0..ticks {
+            self.pace.before_tick(tick + 1);
+            if self.feed_once(seat, Event::Tick)? {
+                journaled += 1;
+            }
+        }
+        Ok(journaled)
+    }
+
+    /// Feeds this interrupt each time that it comes, at most `most` times: how many were journaled.
+    #[tactic(auto, using(crate::proofs::Working::added_begin, crate::proofs::Working::added_more, crate::proofs::Working::added_last, crate::proofs::Working::added_enough, crate::proofs::Working::did_begin, crate::proofs::Working::did_more, crate::proofs::Working::did_some))]
+    fn feed_interrupts(&self, seat: &mut Seat, interrupt: u8, most: u32) -> Result<u32, BoardFault>
+        requires { IsAt B.row_id seat.old }
+        ensures at { IsAt B.row_id seat.new }
+        ensures added { Added B.image B.bound B.row_id (Int interrupt) most seat.old seat.new }
+        ensures finished { IfOk result
+            (λ journaled. DidPart B.image B.bound B.row_id (Int interrupt) most seat.old seat.new
+            × (seat.new.mine ≡ seat.old.mine + journaled)) }
+        ensures stopped { IfErr result (λ f. (seat.new.mine < seat.old.mine + most)
+            × (f ≡ Full) × (length seat.new.seen ≡ B.row_id.capacity)) }
+    {
+        let mut journaled = 0;
+        for _time in 0..most {
+            if !self.pace.interrupt_comes() {
+                return Ok(journaled);
+            }
+            if self.feed_once(seat, Event::Int(interrupt))? {
+                journaled += 1;
+            }
+        }
+        Ok(journaled)
+    }
+
+    /// Does a thread's part: how many of its events were journaled.
+    fn run_part(&self, seat: &mut Seat, part: ThreadPart) -> Result<u32, BoardFault>
+        requires { IsAt B.row_id seat.old }
+        ensures at { IsAt B.row_id seat.new }
+        ensures gave { GaveBack B.image B.bound B.row_id G.is_open (job_of part seat.old) (gave seat.new result) }
+    {
+        match part.event {
+            Event::Run(p) => self.run_turns(seat, p, part.times),
+            Event::Tick => self.feed_ticks(seat, part.times),
+            Event::Int(interrupt) => self.feed_interrupts(seat, interrupt, part.times),
+        }
+    }
+
+    /// Does a thread's part with its seat, and gives the seat back.
+    pub(crate) fn work(&self, mut seat: Seat, part: ThreadPart) -> ThreadWork
+        requires { IsAt B.row_id seat }
+        ensures { GaveBack B.image B.bound B.row_id G.is_open (job_of part seat)
+            (gave result.seat result.journaled) }
+    {
+        let journaled = self.run_part(&mut seat, part);
+        self.pace.ended();
+        ThreadWork { seat, journaled }
+    }
 }

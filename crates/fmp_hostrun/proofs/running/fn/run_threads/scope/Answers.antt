@@ -6,6 +6,20 @@ use Rattle.fmp_hostrun.proofs.Starting.{all_back, all_but_one, all_started, all_
 use Rattle.fmp_hostrun.proofs.Starting.{one_spared, one_started, seats_at}
 use Rattle.fmp_hostrun.proofs.running.fn.run_threads.scope.Goals as goal
 
+pub loop-seat-init : goal.loop-seat-init
+loop-seat-init g c =
+    let crew = c.captures.crew in
+    search (crew.handles, crew.spared, rules)
+
+pub joined-back-requires-clause-few : goal.joined-back-requires-clause-few
+joined-back-requires-clause-few g c κs within = let crew = c.captures.crew in search (crew.few, rules)
+
+pub joined-back-requires-clause-back : goal.joined-back-requires-clause-back
+joined-back-requires-clause-back g c κs within = let crew = c.captures.crew in search (crew.back, rules)
+
+pub with_seats-back-requires : goal.with_seats-back-requires
+with_seats-back-requires g c = let crew = c.captures.crew in search (crew.back, rules)
+
 pub loop-seat-preserved-then-refused : goal.loop-seat-preserved-then-refused
 loop-seat-preserved-then-refused g c =
     let i = c.loop-seat.invariant in

@@ -2,7 +2,7 @@ use Rattle.std.proofs.Common.{◌≡◌, ◌+◌, ◌≤◌}
 use Rattle.fmp_base.specs.declared.events.Event.TheVariants.{Int}
 use Rattle.fmp_board.specs.Boards.{IsAt}
 use Rattle.fmp_hostrun.specs.Works.{Added, DidTimes}
-use Rattle.fmp_hostrun.proofs.turns.feed_interrupts.Given as goal
+use Rattle.fmp_hostrun.proofs.turns.Host.feed_interrupts.Given as goal
 
 abbrev pub invariant-loop-time : goal.invariant-loop-time
 invariant-loop-time g l =

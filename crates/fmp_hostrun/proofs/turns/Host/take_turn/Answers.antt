@@ -2,7 +2,7 @@ use Rattle.std.proofs.Common.{◌≡◌, Some, rules}
 use Rattle.fmp_base.specs.declared.events.Event.TheVariants.{Run}
 use Rattle.fmp_board.specs.Outcomes.{Drew}
 use Rattle.fmp_hostrun.proofs.Working.{added_none, added_submitted, added_turn, did_submitted, turn_refused}
-use Rattle.fmp_hostrun.proofs.turns.take_turn.Goals as goal
+use Rattle.fmp_hostrun.proofs.turns.Host.take_turn.Goals as goal
 
 pub returns-in-Ok-clause-added : goal.returns-in-Ok-clause-added
 returns-in-Ok-clause-added g c =

@@ -2,7 +2,7 @@ use Rattle.std.proofs.Common.{◌≡◌, ◌+◌, ◌≤◌}
 use Rattle.fmp_base.specs.declared.events.Event.TheVariants.{Tick}
 use Rattle.fmp_board.specs.Boards.{IsAt}
 use Rattle.fmp_hostrun.specs.Works.{Added, DidTimes}
-use Rattle.fmp_hostrun.proofs.turns.feed_ticks.Given as goal
+use Rattle.fmp_hostrun.proofs.turns.Host.feed_ticks.Given as goal
 
 abbrev pub invariant-loop-tick : goal.invariant-loop-tick
 invariant-loop-tick g l =

@@ -2,7 +2,7 @@ use Rattle.std.proofs.Common.{◌≡◌, MatchBool, None, Some}
 use Rattle.fmp_board.specs.Boards.{IsAt}
 use Rattle.fmp_board.specs.Outcomes.{Drew, IsDrawn, IsOutcome}
 use Rattle.fmp_board.specs.Visits.{Visited}
-use Rattle.fmp_hostrun.proofs.turns.look.Given as goal
+use Rattle.fmp_hostrun.proofs.turns.Host.look.Given as goal
 
 abbrev pub invariant-loop-look : goal.invariant-loop-look
 invariant-loop-look g l =

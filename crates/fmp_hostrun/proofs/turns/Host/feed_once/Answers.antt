@@ -1,5 +1,5 @@
 use Rattle.fmp_hostrun.proofs.Working.{added_fed, did_fed}
-use Rattle.fmp_hostrun.proofs.turns.feed_once.Goals as goal
+use Rattle.fmp_hostrun.proofs.turns.Host.feed_once.Goals as goal
 
 pub returns-clause-added : goal.returns-clause-added
 returns-clause-added g c = added_fed _ _ _ _ _ _ _ c.feed.ensures.visited c.feed.ensures.mine c.feed.ensures.fed

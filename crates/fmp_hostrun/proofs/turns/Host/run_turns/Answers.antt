@@ -1,7 +1,7 @@
 use Rattle.std.proofs.Common.{rules}
 use Rattle.fmp_base.specs.declared.events.Event.TheVariants.{Run}
 use Rattle.fmp_hostrun.proofs.Working.{added_more, did_more}
-use Rattle.fmp_hostrun.proofs.turns.run_turns.Goals as goal
+use Rattle.fmp_hostrun.proofs.turns.Host.run_turns.Goals as goal
 
 pub loop-turn-preserved : goal.loop-turn-preserved
 loop-turn-preserved g c =
