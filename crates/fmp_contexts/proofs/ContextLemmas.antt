@@ -45,7 +45,7 @@ AllContexts-nothing : {A : Type 0} (P : ℕ → A → Type 0) (n : ℕ) → AllC
 AllContexts-nothing P zero = tt
 AllContexts-nothing P (suc n) = AllContexts-nothing (λ i. P (suc i)) n
 
--- one more behind
+-- one more after the others
 pub more_fits : {A : Type 0} (P : ℕ → A → Type 0) (cs : List (Option A)) (c : A) → AllContexts P cs → P (length cs) c
     → AllContexts P (cs ++ Some c ∷ [])
 more_fits P [] c h k = (k, tt)
@@ -77,13 +77,13 @@ one_more {C} sys M t cs l h =
     append_assoc cs _ (drop (t + 1) (first_contexts sys M).tasks)
     ∙ ap (λ (ds : List (Option (Held C))). cs ++ ds) (sym (first_next sys M t l)) ∙ h
 
-none_behind : {A B : Type 0} (f : A → B) (xs : List A) → drop (length xs) (map f xs) ≡ []
-none_behind f [] = refl
-none_behind f (x ∷ xs) = none_behind f xs
+none_after : {A B : Type 0} (f : A → B) (xs : List A) → drop (length xs) (map f xs) ≡ []
+none_after f [] = refl
+none_after f (x ∷ xs) = none_after f xs
 
 pub first_none : {C : Type 0} (sys : SystemTables) (M : Meaning C)
     → drop (length sys.tasks) (first_contexts sys M).tasks ≡ []
-first_none sys M = none_behind _ sys.tasks
+first_none sys M = none_after _ sys.tasks
 
 -- what is kept of a caller fits its body
 fits_in : {B C : Type 0} (has_entry : B → ℕ → Type 0) (is_context : B → ℕ → C → Type 0) (body : B)

@@ -1,13 +1,14 @@
 //! The contexts of bodies are put in place as they were saved. Each is tested, so that none stands here that its body
 //! does not know.
-ghost use Rattle.std.specs.Prelude.{◌≡◌, ◌<◌, length, true};
+ghost use Rattle.std.specs.Prelude.{◌≡◌, ◌<◌, IfSome, Some, length, true};
+ghost use Rattle.fmp_base.specs.Meanings.{handler_start};
 ghost use Rattle.fmp_base.specs.Ranges.{IsInRange};
 ghost use Rattle.fmp_contexts.specs.Contexts.{Entered, Fitting, HasPlaces};
 ghost use Rattle.fmp_tasks.specs.Homes.{is_waiting as is_waiting_phase};
 
 use crate::contexts::{BodyContexts, body_number};
 use crate::deliveries::handler_start;
-use fmp_base::{Body, Handler, Phase};
+use fmp_base::{Body, Handler, HandlerStart, Phase};
 use fmp_tasks::KernelState;
 
 /// Tells the contexts of bodies from other values.
@@ -90,33 +91,23 @@ fn restore_tasks<B: Body, T: ContextTest<B>>(
     true
 }
 
-/// This context is kept of handler h, which runs on processor p. Gives whether there is such a handler, and it is one
-/// of its body.
-fn restore_handler<B: Body, T: ContextTest<B>>(
+/// The start of handler h, if there is such a handler and this context is one of its body.
+fn accepted_start<B: Body, T: ContextTest<B>>(
     test: &T,
     body: &B,
     tables: &KernelState,
-    contexts: &mut BodyContexts<B::Ctx>,
-    p: u8,
     h: Handler,
     context: &B::Ctx,
-) -> bool
-    requires range { IsInRange tables.now.system }
-    requires places { HasPlaces tables.now.system contexts.old }
-    requires entries { Entered B.has_entry body.now tables.now.system }
-    requires contexts { Fitting B.has_entry B.is_context body.now tables.now.system contexts.old }
-    ensures places { HasPlaces tables.now.system contexts.new }
-    ensures fitting { Fitting B.has_entry B.is_context body.now tables.now.system contexts.new }
+) -> Option<HandlerStart>
+    requires { IsInRange tables.now.system }
+    ensures start { IfSome result (λ start. handler_start tables.now.system h ≡ Some start) }
+    ensures context { IfSome result (λ start. B.is_context body.now start.body context.now) }
 {
-    let Some(start) = handler_start(tables, h) else {
-        return false;
-    };
-    if test.accepts(body, start.body, context) {
-        contexts.begin_handler(p, start.body, *context);
-        true
-    } else {
-        false
+    let start = handler_start(tables, h)?;
+    if !test.accepts(body, start.body, context) {
+        return None;
     }
+    Some(start)
 }
 
 /// What is kept of the handler of processor p: this context where one runs, else nothing. Gives whether a handler runs
@@ -139,10 +130,18 @@ fn restore_on<B: Body, T: ContextTest<B>>(
     ensures fitting { Fitting B.has_entry B.is_context body.now tables.now.system contexts.new }
 {
     match tables.processor(p).handler {
-        Some(h) => match saved {
-            Some(context) => restore_handler(test, body, tables, contexts, p, h, context),
-            None => false,
-        },
+        Some(h) => {
+            let Some(context) = saved else {
+                return false;
+            };
+            match accepted_start(test, body, tables, h, context) {
+                Some(start) => {
+                    contexts.begin_handler(p, start.body, *context);
+                    true
+                }
+                None => false,
+            }
+        }
         None => {
             if contexts.has_handler(p) {
                 contexts.forget_handler(p);
