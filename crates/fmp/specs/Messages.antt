@@ -26,5 +26,6 @@ SaysExit exit before after = Does before (said (exit_line exit) ∷ []) after
 -- what came of a host, in one line
 abbrev pub arrivals_line : Arrivals → List ℕ
 arrivals_line arrivals =
-    codes "ticks " ++ (decimal arrivals.ticks ++ (codes ", interrupts " ++ (decimal arrivals.interrupts
-    ++ (codes ", runs " ++ (decimal arrivals.runs ++ (codes ", lines " ++ (decimal arrivals.lines ++ codes "\n")))))))
+    let events = arrivals.events in
+    codes "ticks " ++ (decimal events.ticks ++ (codes ", interrupts " ++ (decimal events.interrupts
+    ++ (codes ", runs " ++ (decimal events.runs ++ (codes ", lines " ++ (decimal arrivals.lines ++ codes "\n")))))))

@@ -3,6 +3,7 @@ use Rattle.std.specs.Prelude.{ℕ, List, [], Option, None, Some, ◌≡◌, ◌+
 use Rattle.fmp_files.specs.Endings.{IsMemory}
 use Rattle.fmp_image.specs.Building.{Builds, IsBuildFault}
 use Rattle.fmp_engine.specs.Built.{CanBuild}
+use Rattle.fmp_engine.specs.declared.counts.EventCounts.{EventCounts}
 use Rattle.fmp_engine.specs.declared.fault.SimFault.TheVariants as sim
 use Rattle.fmp_engine.specs.declared.hosting.HostFault.TheVariants as host
 use Rattle.fmp_engine.specs.declared.hosting.Workload.{Workload}
@@ -48,9 +49,10 @@ pub record RunsImage (image steps : List ℕ) (n : ℕ) (out : List ℕ) : Type 
 -- The file has the journal that the threads of an image made, and what is printed is what the image prints over it; and
 -- where two texts build the image, it is what they mean over the journal.
 pub record HostsImage (image : List ℕ) (work : Workload) (file out : List ℕ) : Type 0 where
-  pub hosted : Hosts image work [] file [] out
+  pub counts : EventCounts
+  pub hosted : Hosts image work file out counts
   pub meant : (cfg src : List ℕ) (i : ImageTables) (b : Builds cfg src i) → Spells i image
-      → HostsTexts i b.tasks.bodies work [] file [] out
+      → HostsTexts i b.tasks.bodies work file out
 
 -- two texts build an image, and what is printed is what they mean over the steps that the run of the image finished
 pub record RunsTexts (cfg src steps : List ℕ) (n : ℕ) (out : List ℕ) : Type 0 where

@@ -1,6 +1,6 @@
 -- What a run of the program reads, writes, prints and says, and the status that it ends with.
 use Rattle.std.specs.Prelude.{ℕ, ◌≡◌, ◌≢◌, ◌⊎◌, ◌||◌, Bool, true, false, List, [], ◌∷◌, Option, None, Some}
-use Rattle.std.specs.Prelude.{IfSome, IsSomeAnd, MatchBool, is_some, ⊤}
+use Rattle.std.specs.Prelude.{IfSome, IsSomeAnd, IsTrue, MatchBool, is_some, ⊤}
 use Rattle.fmp.specs.Asked.{AsksFor, IsRefused}
 use Rattle.fmp.specs.declared.asking.Cmd.{Cmd}
 use Rattle.fmp.specs.declared.asking.Cmd.TheVariants as command
@@ -15,7 +15,8 @@ use Rattle.fmp.specs.Messages.{SaysExit, arrivals_line}
 use Rattle.fmp.specs.Performed.{CarriesOut, IsWhyNot, status_of}
 use Rattle.fmp.specs.declared.perform.Exit.{Exit}
 use Rattle.fmp.specs.declared.perform.Exit.TheVariants.{Build, Sim, Host, Failed}
-use Rattle.fmp.specs.declared.progress.Arrivals.{Arrivals}
+use Rattle.fmp_engine.specs.Counts.{CountsSteps}
+use Rattle.fmp_engine.specs.declared.counts.EventCounts.{EventCounts}
 
 -- each text is the front of the file of its name, as far as a reading under this limit goes
 abbrev pub AreFronts : Files → (limit : Option ℕ) → (names texts : List (List ℕ)) → Type 0
@@ -78,11 +79,22 @@ pub record Performs (files : Files) (cmd : Cmd) (file out : List ℕ) : Type 0 w
   pub read : AreInputs files cmd inputs
   pub made : CarriesOut cmd inputs file out
 
--- a command was carried out: its file has been written, and this is to be printed
-pub record CarriedOut (files : Files) (cmd : Cmd) (before after : Option (List Deed)) (out : List ℕ) : Type 0 where
+-- whether it is said what came of a command: of a host that goes by the clock or takes lines
+abbrev pub tells : Cmd → Bool
+tells (command.Check _ _) = false
+tells (command.Build _ _ _) = false
+tells (command.Sim _ _ _) = false
+tells (command.Host _ _ _ _ _ tick_us interrupt) = is_some tick_us || is_some interrupt
+tells command.Stored = false
+
+-- A command was carried out: its file has been written, and this is to be printed. If it tells what came of it, the
+-- file has a journal with this many events of each kind.
+pub record CarriedOut (files : Files) (cmd : Cmd) (before after : Option (List Deed)) (out : List ℕ)
+    (counts : EventCounts) : Type 0 where
   pub file : List ℕ
   pub performed : Performs files cmd file out
   pub written : Does before (writes_to (output_of cmd) file) after
+  pub counted : IsTrue (tells cmd) → CountsSteps file counts
 
 -- why a command was not carried out, and what was done
 pub data Fails (files : Files) (cmd : Cmd) (before after : Option (List Deed)) (exit : Exit) : Type 0 where
@@ -95,27 +107,21 @@ pub data Fails (files : Files) (cmd : Cmd) (before after : Option (List Deed)) (
   unwritten : (file out : List ℕ) → Performs files cmd file out → IsFailed (IsFailureAt files (output_of cmd)) exit
       → BeginsFile (output_of cmd) file before after → Fails files cmd before after exit
 
--- whether it is said what came of a command: of a host that goes by the clock or takes lines
-abbrev pub tells : Cmd → Bool
-tells (command.Check _ _) = false
-tells (command.Build _ _ _) = false
-tells (command.Sim _ _ _) = false
-tells (command.Host _ _ _ _ _ tick_us interrupt) = is_some tick_us || is_some interrupt
-tells command.Stored = false
-
--- what came of a command is said if it tells that, and else nothing is said
-abbrev pub SaysWhatCame : Cmd → (before after : Option (List Deed)) → Type 0
-SaysWhatCame cmd before after =
-    MatchBool (tells cmd) ((arrivals : Arrivals) × Does before (said (arrivals_line arrivals) ∷ []) after)
+-- What came of a command is said if it tells that, and else nothing is said: how many events of each kind its journal
+-- has, and how many lines were read.
+abbrev pub SaysWhatCame : Cmd → EventCounts → (before after : Option (List Deed)) → Type 0
+SaysWhatCame cmd counts before after =
+    MatchBool (tells cmd)
+    ((lines : ℕ) × Does before (said (arrivals_line (record { events = counts; lines = lines })) ∷ []) after)
     (after ≡ before)
 
 -- how a run of a command ends, given whether standard output can fail
 pub data EndsCommand (files : Files) (can_fail : Bool) (cmd : Cmd) (before after : Option (List Deed)) (status : ℕ)
     : Type 0 where
   -- it was carried out: its file is written, then is printed what there is to print, and then is said what came
-  done : (out : List ℕ) (between printed : Option (List Deed)) → KeepsInputs files cmd
-      → CarriedOut files cmd before between out → EndsPrinting out can_fail between printed status
-      → SaysWhatCame cmd printed after → EndsCommand files can_fail cmd before after status
+  done : (out : List ℕ) (counts : EventCounts) (between printed : Option (List Deed)) → KeepsInputs files cmd
+      → CarriedOut files cmd before between out counts → EndsPrinting out can_fail between printed status
+      → SaysWhatCame cmd counts printed after → EndsCommand files can_fail cmd before after status
   -- it was not carried out, and why is said
   failed : (exit : Exit) (between : Option (List Deed)) → KeepsInputs files cmd → Fails files cmd before between exit
       → SaysExit exit between after → status ≡ status_of exit → EndsCommand files can_fail cmd before after status

@@ -1,14 +1,16 @@
 //! Carrying out a command over files: what it reads is judged, and then its file is written.
-ghost use Rattle.std.specs.Prelude.{◌≡◌, ◌≢◌, ◌∷◌, [], None, IfErr, IfOk, OnErr, OnOk, length, map};
+ghost use Rattle.std.specs.Prelude.{◌≡◌, ◌≢◌, ◌∷◌, [], None, IfErr, IfOk, IsTrue, OnErr, OnOk, length, map};
+ghost use Rattle.fmp_engine.specs.Counts.{CountsSteps};
 ghost use Rattle.fmp.specs.CommandRanges.{KeepsRanges};
 ghost use Rattle.fmp_files.specs.Deeds.{Does};
 ghost use Rattle.fmp_files.specs.Endings.{IsFailureAt, IsFailureOf};
 ghost use Rattle.fmp.specs.Commands.{input_count, inputs_of, output_of};
 ghost use Rattle.fmp.specs.Performed.{CarriesOut, IsWhyNot};
-ghost use Rattle.fmp.specs.Runs.{AreFronts, AreInputs, BeginsFile, CarriedOut, Fails, writes_to};
+ghost use Rattle.fmp.specs.Runs.{AreFronts, AreInputs, BeginsFile, CarriedOut, Fails, tells, writes_to};
 
 use crate::asking::Cmd;
-use crate::perform::{Exit, perform};
+use crate::perform::{Exit, Made, perform};
+use fmp_engine::EventCounts;
 use fmp_files::{Failure, Outside, read_file, write_file};
 use fmp_hostrun::Pace;
 use std::alloc::{AllocError, Global};
@@ -90,12 +92,13 @@ fn performed<P: Pace, R: Threads + Wait + Sync>(
     cmd: &Cmd,
     texts: &[Vec<u8>],
     pace: &P,
-) -> Result<(Vec<u8>, Vec<u8>), Exit>
+) -> Result<Made, Exit>
     requires writes { output_of cmd.now ≢ None }
     requires inputs { length texts.now ≡ input_count cmd.now }
     requires ranges { KeepsRanges cmd.now }
     ensures ok { IfOk result (λ made.
-        CarriesOut cmd.now (map (λ t. t.items) texts.now) made.0.items made.1.items) }
+        CarriesOut cmd.now (map (λ t. t.items) texts.now) made.file.items made.out.items) }
+    ensures counts { IfOk result (λ made. IsTrue (tells cmd.now) → CountsSteps made.file.items made.counts) }
     ensures err { IfErr result (IsWhyNot cmd.now (map (λ t. t.items) texts.now)) }
 {
     match borrowed(alloc, texts) {
@@ -125,24 +128,25 @@ pub fn write_output<O: Outside>(
     write_file(alloc, outside, name, bytes)
 }
 
-/// Reads the files of a command that writes one, carries it out, writes its file, and gives what is to be printed. An
-/// error is why what was read is refused, a file on which a call failed, or out of memory. A host goes at this pace.
+/// Reads the files of a command that writes one, carries it out, writes its file, and gives what is to be printed, and
+/// how many events of each kind the journal of a host has. An error is why what was read is refused, a file on which a
+/// call failed, or out of memory. A host goes at this pace.
 pub fn carry_out<O: Outside, P: Pace, R: Threads + Wait + Sync>(
     rt: &R,
     alloc: Global,
     outside: &mut O,
     cmd: &Cmd,
     pace: &P,
-) -> Result<Vec<u8>, Exit>
+) -> Result<(Vec<u8>, EventCounts), Exit>
     requires writes { output_of cmd.now ≢ None }
     requires ranges { KeepsRanges cmd.now }
-    ensures ok { IfOk result (λ out.
-        CarriedOut (O.files outside.old) cmd.now (O.done outside.old) (O.done outside.new) out.items) }
+    ensures ok { IfOk result (λ made.
+        CarriedOut (O.files outside.old) cmd.now (O.done outside.old) (O.done outside.new) made.0.items made.1) }
     ensures err { IfErr result (Fails (O.files outside.old) cmd.now (O.done outside.old) (O.done outside.new)) }
     ensures output { O.output_can_fail outside.new ≡ O.output_can_fail outside.old }
 {
     let texts = read_inputs(alloc, outside, cmd)?;
-    let (file, out) = performed(rt, alloc, cmd, &texts, pace)?;
+    let Made { file, out, counts } = performed(rt, alloc, cmd, &texts, pace)?;
     write_output(alloc, outside, cmd, &file)?;
-    Ok(out)
+    Ok((out, counts))
 }

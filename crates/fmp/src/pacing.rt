@@ -1,7 +1,7 @@
 //! The pace of a host: as fast as it goes, or by the clock and the lines of standard input.
 use crate::asking::Cmd;
 use crate::lines::read_lines;
-use crate::progress::{Arrivals, Progress};
+use crate::progress::Progress;
 use fmp_base::Event;
 use fmp_hostrun::Pace;
 use std::alloc::{AllocError, Global};
@@ -78,9 +78,9 @@ impl<'a, R> Pacer<'a, R> {
 }
 
 impl<R: Wait> Pacer<'_, R> {
-    /// What came.
-    pub fn arrivals(&self) -> Arrivals {
-        self.shared.progress.lock(self.rt).arrivals()
+    /// How many lines of standard input were read.
+    pub fn lines(&self) -> u64 {
+        self.shared.progress.lock(self.rt).lines()
     }
 
     /// No more lines come.
@@ -208,11 +208,11 @@ impl<R: Wait + Clock + Sync> Pace for Pacer<'_, R> {
         false
     }
 
-    fn journaled(&self, event: Event) {
+    fn journaled(&self, _event: Event) {
         if !self.plan.waits() {
             return;
         }
-        self.shared.progress.lock(self.rt).count(event);
+        self.shared.progress.lock(self.rt).count_event();
         self.shared.changed.notify_all();
     }
 }

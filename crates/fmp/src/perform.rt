@@ -1,7 +1,8 @@
 //! Carrying out a command, from the bytes that were read to those that are to be written.
 ghost use Rattle.std.specs.Prelude.{◌≡◌, ◌≢◌, ◌++◌, ℕ, List, [], None, OnOk, IfErr, IfOk, IfSome, codes, decimal};
-ghost use Rattle.std.specs.Prelude.{length, map, string_bytes};
+ghost use Rattle.std.specs.Prelude.{length, map, string_bytes, IsTrue};
 ghost use Rattle.fmp_image.specs.Building.{IsBuildFault};
+ghost use Rattle.fmp_engine.specs.Counts.{CountsSteps};
 ghost use Rattle.fmp_engine.specs.Hosting.{IsWhyHost, IsWorkload};
 ghost use Rattle.fmp_engine.specs.Simulations.{IsWhySim};
 ghost use Rattle.fmp.specs.CommandRanges.{IsBound, IsCount, IsInterrupt, KeepsRanges};
@@ -9,11 +10,13 @@ ghost use Rattle.fmp.specs.Commands.{input_count, output_of};
 ghost use Rattle.fmp.specs.Performed.{BuildsFile, CarriesOut, Checks, HostsImage, IsWhyNoImage, IsWhyNoRun, IsWhyNot};
 ghost use Rattle.fmp.specs.Performed.{IsWhyNotHosted, IsWhyNotRun, RunsImage, RunsTexts, status_of, work_of};
 ghost use Rattle.fmp.specs.declared.perform.Exit.TheVariants.{Failed};
+ghost use Rattle.fmp.specs.Runs.{tells};
 ghost use Rattle.fmp.specs.Giving.{GivesText, IsStopped, IsWhyCut};
 
 use crate::asking::Cmd;
 use fmp_engine::{
-    HostFault, Outlet, SimCut, SimFault, Workload, build_image, check, host, sim_into,
+    EventCounts, HostFault, Hosted, Outlet, SimCut, SimFault, Workload, build_image, check, host,
+    sim_into,
 };
 use fmp_files::{Failure, Reason};
 use fmp_hostrun::Pace;
@@ -169,9 +172,20 @@ fn size_line(alloc: Global, size: usize) -> Result<String, AllocError>
     format!(in alloc; "ok {size}\n")
 }
 
+/// What a command makes that writes a file.
+#[derive(Drop)]
+pub struct Made {
+    /// The bytes of its file.
+    pub file: Vec<u8>,
+    /// What it prints.
+    pub out: Vec<u8>,
+    /// How many events of each kind the journal of a host has.
+    pub counts: EventCounts,
+}
+
 /// The bytes of the image that two texts build, and the line that says how many they are.
-fn built(alloc: Global, cfg: &[u8], src: &[u8]) -> Result<(Vec<u8>, Vec<u8>), Exit>
-    ensures ok { IfOk result (λ made. BuildsFile cfg.now src.now made.0.items made.1.items) }
+fn built(alloc: Global, cfg: &[u8], src: &[u8]) -> Result<Made, Exit>
+    ensures ok { IfOk result (λ made. BuildsFile cfg.now src.now made.file.items made.out.items) }
     ensures refused { IfErr result (IsWhyNoImage cfg.now src.now) }
 {
     let mut image = Vec::new(alloc);
@@ -180,7 +194,11 @@ fn built(alloc: Global, cfg: &[u8], src: &[u8]) -> Result<(Vec<u8>, Vec<u8>), Ex
         Err(fault) => return Err(no_image(fault)),
     }
     match size_line(alloc, image.len()) {
-        Ok(line) => Ok((image, line.into_bytes())),
+        Ok(line) => Ok(Made {
+            file: image,
+            out: line.into_bytes(),
+            counts: EventCounts::NONE,
+        }),
         Err(error) => Err(Exit::Failed(Failure::Memory(error))),
     }
 }
@@ -237,15 +255,24 @@ fn hosted<P: Pace, R: Threads + Wait + Sync>(
     image: &[u8],
     pace: &P,
     work: Workload,
-) -> Result<(Vec<u8>, Vec<u8>), Exit>
+) -> Result<Made, Exit>
     requires { IsWorkload work }
-    ensures ok { IfOk result (λ made. HostsImage image.now work made.0.items made.1.items) }
+    ensures ok { IfOk result (λ made. HostsImage image.now work made.file.items made.out.items) }
+    ensures counts { IfOk result (λ made. CountsSteps made.file.items made.counts) }
     ensures refused { IfErr result (IsWhyNotHosted image.now work) }
 {
-    let mut journal = Vec::new(alloc);
-    let mut out = Vec::new(alloc);
-    match host(rt, alloc, image, pace, work, &mut journal, &mut out) {
-        Ok(()) => Ok((journal, out)),
+    match host(rt, alloc, image, pace, work) {
+        Ok(
+            Hosted {
+                journal,
+                text,
+                counts,
+            },
+        ) => Ok(Made {
+            file: journal,
+            out: text,
+            counts,
+        }),
         Err(fault) => Err(no_host(fault)),
     }
 }
@@ -310,12 +337,13 @@ pub fn perform<P: Pace, R: Threads + Wait + Sync>(
     cmd: &Cmd,
     inputs: &[&[u8]],
     pace: &P,
-) -> Result<(Vec<u8>, Vec<u8>), Exit>
+) -> Result<Made, Exit>
     requires writes { output_of cmd.now ≢ None }
     requires inputs { length inputs.now ≡ input_count cmd.now }
     requires ranges { KeepsRanges cmd.now }
     ensures ok { IfOk result (λ made.
-        CarriesOut cmd.now (map (λ s. s.now) inputs.now) made.0.items made.1.items) }
+        CarriesOut cmd.now (map (λ s. s.now) inputs.now) made.file.items made.out.items) }
+    ensures counts { IfOk result (λ made. IsTrue (tells cmd.now) → CountsSteps made.file.items made.counts) }
     ensures refused { IfErr result (IsWhyNot cmd.now (map (λ s. s.now) inputs.now)) }
 {
     match cmd {

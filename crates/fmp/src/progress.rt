@@ -1,29 +1,16 @@
 //! What has happened so far in a host whose threads wait for one another.
 use crate::perform::INTERRUPTS_MAX;
-use fmp_base::Event;
+use fmp_engine::EventCounts;
 use std::fmt;
 use std::time::Instant;
 
 /// What came of a host.
 #[derive(Clone, Copy, PartialEq, Eq)]
 pub struct Arrivals {
-    /// How many ticks are in the journal.
-    pub ticks: u64,
-    /// How many interrupts.
-    pub interrupts: u64,
-    /// How many runs of processors.
-    pub runs: u64,
+    /// How many events of each kind are in the journal.
+    pub events: EventCounts,
     /// How many lines of standard input were read.
     pub lines: u64,
-}
-
-impl Arrivals {
-    const NONE: Arrivals = Arrivals {
-        ticks: 0,
-        interrupts: 0,
-        runs: 0,
-        lines: 0,
-    };
 }
 
 impl fmt::Display for Arrivals {
@@ -34,12 +21,12 @@ impl fmt::Display for Arrivals {
 
     /// What came, in one line.
     fn fmt<W: fmt::Write>(&self, f: &mut fmt::Formatter<W>) -> fmt::Result {
-        let Arrivals {
+        let Arrivals { events, lines } = self;
+        let EventCounts {
+            runs,
             ticks,
             interrupts,
-            runs,
-            lines,
-        } = self;
+        } = events;
         write!(
             f,
             "ticks {ticks}, interrupts {interrupts}, runs {runs}, lines {lines}\n"
@@ -50,7 +37,8 @@ impl fmt::Display for Arrivals {
 /// What has happened so far.
 #[derive(Drop)]
 pub struct Progress {
-    arrivals: Arrivals,
+    /// How many lines of standard input were read.
+    lines: u64,
     /// How many events are in the journal.
     moment: u64,
     /// How many threads there are.
@@ -75,7 +63,7 @@ impl Progress {
     /// Nothing has happened, and lines may come or not.
     pub fn new(input_open: bool) -> Progress {
         Progress {
-            arrivals: Arrivals::NONE,
+            lines: 0,
             moment: 0,
             threads: 0,
             ended: 0,
@@ -88,9 +76,9 @@ impl Progress {
         }
     }
 
-    /// What came so far.
-    pub fn arrivals(&self) -> Arrivals {
-        self.arrivals
+    /// How many lines of standard input were read.
+    pub fn lines(&self) -> u64 {
+        self.lines
     }
 
     /// How many events are in the journal.
@@ -155,20 +143,14 @@ impl Progress {
     }
 
     /// An event is in the journal: all who wait look again.
-    pub fn count(&mut self, event: Event) {
-        let arrivals = &mut self.arrivals;
-        match event {
-            Event::Run(_) => arrivals.runs = arrivals.runs.saturating_add(1),
-            Event::Tick => arrivals.ticks = arrivals.ticks.saturating_add(1),
-            Event::Int(_) => arrivals.interrupts = arrivals.interrupts.saturating_add(1),
-        }
+    pub fn count_event(&mut self) {
         self.moment = self.moment.wrapping_add(1);
         self.waiting = 0;
     }
 
     /// A line has come that raises the interrupt, or not.
     pub fn take_line(&mut self, raises: bool) {
-        self.arrivals.lines = self.arrivals.lines.saturating_add(1);
+        self.lines = self.lines.saturating_add(1);
         if raises && self.raised < INTERRUPTS_MAX {
             self.raised = self.raised.saturating_add(1);
         }

@@ -58,8 +58,8 @@ const OF_VIEW: [&str; 16] = [
 /// What stands before a piece of a message, and after the next end of a line or of lines.
 fn parts_at<'a>(message: &'a str, piece: &str, end: &str) -> Option<(&'a str, &'a str)> {
     let (front, rest) = message.split_once(piece)?;
-    let (_, behind) = rest.split_once(end)?;
-    Some((front, behind))
+    let (_, after) = rest.split_once(end)?;
+    Some((front, after))
 }
 
 /// A message with the range of its option in place of the parser's reason.
@@ -160,7 +160,7 @@ fn with_program(alloc: Global, message: &str) -> Result<Option<String>, AllocErr
 /// A message without the tip that the word can stand for a value.
 fn without_tip(alloc: Global, message: &str) -> Result<Option<String>, AllocError> {
     match parts_at(message, "  tip: to pass '", "\n\n") {
-        Some((front, behind)) => Ok(Some(format!(in alloc; "{front}{behind}")?)),
+        Some((front, after)) => Ok(Some(format!(in alloc; "{front}{after}")?)),
         None => Ok(None),
     }
 }

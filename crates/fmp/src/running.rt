@@ -11,7 +11,9 @@ use crate::carrying::{borrowed, carry_out, read_inputs};
 use crate::pacing::Pacer;
 use crate::perform::CommandCut;
 use crate::printing::print_performed;
+use crate::progress::Arrivals;
 use crate::refusing::refuse_form;
+use fmp_engine::EventCounts;
 use fmp_files::{Failure, Outside, end, failed, print, refuse_mistake};
 use std::alloc::{AllocError, Global};
 use std::io::Input;
@@ -95,12 +97,18 @@ fn tells(cmd: &Cmd) -> bool
     }
 }
 
-/// Says what came of a command, if that is to be said.
-fn say_arrivals<O: Outside, R: Wait>(outside: &mut O, cmd: &Cmd, pacer: &Pacer<'_, R>)
-    ensures { SaysWhatCame cmd.now (O.done outside.old) (O.done outside.new) }
+/// Says what came of a command, if that is to be said: the events of its journal, and the lines that its pacer took.
+fn say_arrivals<O: Outside, R: Wait>(
+    outside: &mut O,
+    cmd: &Cmd,
+    events: EventCounts,
+    pacer: &Pacer<'_, R>,
+)
+    ensures { SaysWhatCame cmd.now events (O.done outside.old) (O.done outside.new) }
 {
     if tells(cmd) {
-        outside.say(pacer.arrivals());
+        let lines = pacer.lines();
+        outside.say(Arrivals { events, lines });
     }
 }
 
@@ -125,9 +133,9 @@ where
     };
     pacer.start_reading();
     match carry_out(rt, alloc, outside, cmd, &pacer) {
-        Ok(out) => {
+        Ok((out, counts)) => {
             let status = print(alloc, outside, &out);
-            say_arrivals(outside, cmd, &pacer);
+            say_arrivals(outside, cmd, counts, &pacer);
             status
         }
         Err(exit) => end(outside, &exit),

@@ -1,7 +1,6 @@
 -- A simulation over the steps text of a journal that threads made prints the same.
-use Rattle.std.proofs.Common.{◌≡◌, ℕ, ◌+◌, ◌<◌, ◌≤◌, List, [], ◌∷◌, ◌++◌, Ok, nat_le, true, sym, ◌∙◌, subst, arith}
+use Rattle.std.proofs.Common.{◌≡◌, ℕ, ◌+◌, ◌<◌, ◌≤◌, List, [], ◌∷◌, Ok, nat_le, true, sym, subst, arith}
 use Rattle.std.proofs.lemmas.Bool.{leb-true}
-use Rattle.std.proofs.lemmas.List.{append_cancel_left}
 use Rattle.std.proofs.lemmas.List.Elements.{All-tail}
 use Rattle.std.specs.List.{All, AllByRecursion}
 use Rattle.fmp_base.specs.declared.events.Event.{Event}
@@ -12,6 +11,7 @@ use Rattle.fmp_image_bytes.proofs.Names.{and_true}
 use Rattle.fmp_image_bytes.specs.Fields.{in_range}
 use Rattle.fmp_trace.specs.Steps.{steps_of, steps_text}
 use Rattle.fmp_trace.specs.StepsLaws.{IsStep, PrintedStepsReadBack}
+use Rattle.fmp_engine.specs.declared.counts.EventCounts.{EventCounts}
 use Rattle.fmp_engine.specs.declared.hosting.Workload.{Workload}
 use Rattle.fmp_engine.specs.Hosting.{Hosts, IsWorkload, load_for}
 use Rattle.fmp_engine.specs.Simulations.{Simulates}
@@ -34,11 +34,9 @@ few_processors : (n : ℕ) → in_range 1 8 n ≡ true → n < 256
 few_processors n fits = let high : n ≤ 8 = leb-true n 8 (and_true (nat_le 1 n) (nat_le n 8) fits).1 in omega
     (arith, high)
 
-pub simulates_again : (image : List ℕ) (work : Workload) (file file_after out out_after steps : List ℕ)
-    → PrintedStepsReadBack → IsWorkload work → Hosts image work file file_after out out_after
-    → file_after ≡ file ++ steps → Simulates image steps work.bound out out_after
-simulates_again image work file file_after out out_after steps law w h is =
-    let same : steps_text h.journal ≡ steps = append_cancel_left file (steps_text h.journal) steps (sym h.steps ∙ is) in
+pub simulates_again : (image : List ℕ) (work : Workload) (file out : List ℕ) (counts : EventCounts)
+    → PrintedStepsReadBack → IsWorkload work → Hosts image work file out counts → Simulates image file work.bound [] out
+simulates_again image work file out counts law w h =
     let processors : ℕ = h.loaded.system.processors in
     let read : steps_of processors (steps_text h.journal) ≡ Ok h.journal =
     law processors h.journal (few_processors processors h.spelled.lawful.processors)
@@ -48,6 +46,6 @@ simulates_again image work file file_after out out_after steps law w h is =
       loaded = h.loaded;
       spelled = h.spelled;
       events = h.journal;
-      read = subst (λ (text : List ℕ). steps_of processors text ≡ Ok h.journal) same read;
+      read = subst (λ (text : List ℕ). steps_of processors text ≡ Ok h.journal) (sym h.steps) read;
       text = h.text;
     }

@@ -26,7 +26,7 @@ module _ {T : Type 0} (gave : T → T → List ℕ → Type 0) where
       → Given gave a b left whole_too
   whole_is_too a b left whole whole_too same h = subst (λ (xs : List ℕ). Given gave a b left xs) same h
 
-  -- of a text that begins with another, what behind that one is left too
+  -- of a text that begins with another, what is left after that one too
   pub given_before : (a b : T) (left whole more : List ℕ) → Given gave a b left whole
       → Given gave a b (left ++ more) (whole ++ more)
   given_before a b left whole more h =
@@ -44,7 +44,7 @@ module _ {T : Type 0} (gave : T → T → List ℕ → Type 0) where
 
 module _ {T : Type 0} (first second both : T → T → List ℕ → Type 0)
     (join : (a b c : T) (x y : List ℕ) → first a b x → second b c y → both a c (x ++ y)) where
-  -- behind a front, the front of what was left is given too
+  -- after a front, the front of what was left is given too
   pub given_through : (a b c : T) (left middle whole : List ℕ) → Given first a b middle whole
       → Given second b c left middle
       → Given both a c left whole

@@ -1,5 +1,5 @@
 -- What a host of an image writes and prints, or why it does not.
-use Rattle.std.specs.Prelude.{◌≡◌, ◌++◌, ◌+◌, ◌*◌, ◌≤◌, ◌^◌, ℕ, List, Err, length}
+use Rattle.std.specs.Prelude.{◌≡◌, ◌+◌, ◌*◌, ◌≤◌, ◌^◌, ℕ, List, Err, length}
 use Rattle.fmp_base.specs.declared.events.Effect.{Effect}
 use Rattle.fmp_base.specs.declared.events.Event.{Event}
 use Rattle.fmp_base.specs.KeptRuns.{IsFinished}
@@ -20,6 +20,8 @@ use Rattle.fmp_tasklang.specs.Contexts.{TextContext}
 use Rattle.fmp_tasklang.specs.Texts.{text_meaning}
 use Rattle.fmp_tasklang.specs.Trees.{BodyTree}
 use Rattle.fmp_trace.specs.Steps.{steps_text}
+use Rattle.fmp_engine.specs.Counts.{counts_of}
+use Rattle.fmp_engine.specs.declared.counts.EventCounts.{EventCounts}
 use Rattle.fmp_engine.specs.declared.hosting.HostFault.{HostFault}
 use Rattle.fmp_engine.specs.declared.hosting.HostFault.TheVariants as fault
 use Rattle.fmp_engine.specs.declared.hosting.Workload.{Workload}
@@ -63,24 +65,25 @@ pub record IsHosted (i : ImageTables) (work : Workload) (journal : List Event) :
   pub counted : AreCounted (load_for i work) journal
   pub ran : IsRun i work.bound (Unit {0}) (load_for i work) journal
 
--- The bytes spell an image, and its threads made a journal. What was appended to the file is the steps text of the
--- journal, and what was appended to the output is all that the image prints over it, within the bound of a stretch.
-pub record Hosts (image : List ℕ) (work : Workload) (file file_after out out_after : List ℕ) : Type 0 where
+-- The bytes spell an image, and its threads made a journal, which has this many events of each kind. What is to be
+-- written is the steps text of the journal, and what is to be printed is all that the image prints over it, within the
+-- bound of a stretch.
+pub record Hosts (image : List ℕ) (work : Workload) (file out : List ℕ) (counts : EventCounts) : Type 0 where
   pub loaded : ImageTables
   pub spelled : Spells loaded image
   pub journal : List Event
   pub made : IsHosted loaded work journal
-  pub steps : file_after ≡ file ++ steps_text journal
-  pub text : out_after ≡ out ++ whole_text loaded.system (code_meaning loaded.code) work.bound journal
+  pub steps : file ≡ steps_text journal
+  pub text : out ≡ whole_text loaded.system (code_meaning loaded.code) work.bound journal
+  pub counted : counts ≡ counts_of journal
 
--- What was appended to the file is the steps text of a journal that the threads of an image made, and what was appended
--- to the output is what the bodies of a task text mean over those of its events that were done. Each other event kept
--- the place of its actor once more.
-pub record HostsTexts (i : ImageTables) (bodies : List BodyTree) (work : Workload)
-    (file file_after out out_after : List ℕ) : Type 0 where
+-- What is to be written is the steps text of a journal that the threads of an image made, and what is to be printed is
+-- what the bodies of a task text mean over those of its events that were done. Each other event kept the place of its
+-- actor once more.
+pub record HostsTexts (i : ImageTables) (bodies : List BodyTree) (work : Workload) (file out : List ℕ) : Type 0 where
   pub journal : List Event
   pub made : IsHosted i work journal
-  pub steps : file_after ≡ file ++ steps_text journal
+  pub steps : file ≡ steps_text journal
   pub finished : List Event
   pub are_done :
       let machine = code_meaning i.code in
@@ -93,7 +96,7 @@ pub record HostsTexts (i : ImageTables) (bodies : List BodyTree) (work : Workloa
   pub finishes :
       let text = text_meaning i.system bodies in
       IsFinished i.system text work.bound (longest i.code) journal answers finished trace
-  pub text : out_after ≡ out ++ trace_text i.system (setup i.system (text_meaning i.system bodies)).lines trace
+  pub text : out ≡ trace_text i.system (setup i.system (text_meaning i.system bodies)).lines trace
 
 -- why a board of an image gives no journal, apart from running out of memory
 abbrev pub IsWhyNoBoard : BoardFault → ImageTables → Workload → Type 0

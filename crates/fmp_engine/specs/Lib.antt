@@ -1,4 +1,5 @@
 pub mod Built
+pub mod Counts
 pub mod Hosting
 pub mod Messages
 pub mod Outlets

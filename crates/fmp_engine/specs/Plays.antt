@@ -1,5 +1,5 @@
 -- What a run on a kernel still has to print, and where it ends.
-use Rattle.std.specs.Prelude.{ℕ, ◌≡◌, ◌+◌, List, [], ◌++◌}
+use Rattle.std.specs.Prelude.{ℕ, ◌≡◌, ◌+◌, ◌≤◌, List, [], ◌++◌, vec_capacity}
 use Rattle.fmp_base.specs.declared.events.Event.{Event}
 use Rattle.fmp_base.specs.Meanings.{Meaning}
 use Rattle.fmp_base.specs.Runs.{run}
@@ -8,6 +8,7 @@ use Rattle.fmp_base.specs.Texts.{events_text}
 use Rattle.fmp_kernel.specs.KernelViews.{KernelView}
 use Rattle.fmp_engine.specs.declared.fault.TextCut.{TextCut}
 use Rattle.fmp_engine.specs.declared.fault.TextCut.TheVariants.{Memory, Stopped}
+use Rattle.fmp_engine.specs.declared.play.Buffers.{Buffers}
 use Rattle.fmp_engine.specs.Outlets.{Given, GivenFront}
 
 -- the text of the lines of the events that a kernel does of a list, numbered on
@@ -33,3 +34,10 @@ abbrev pub IsWhyCut : {T : Type 0} → (gave stopped : T → T → List ℕ → 
     → Type 0
 IsWhyCut gave stopped from to whole Memory = gave from to []
 IsWhyCut gave stopped from to whole Stopped = GivenFront stopped from to whole
+
+-- buffers in which nothing stands, with room for the end of any run
+pub record AreFree (b : Buffers) : Type 0 where
+  pub no_text : b.text.items ≡ []
+  pub room : 393216 ≤ vec_capacity b.text
+  pub no_states : b.states.items ≡ []
+  pub states_room : 255 ≤ vec_capacity b.states

@@ -1,8 +1,9 @@
 //! A host: an image that is run by threads, one for each of its processors.
-ghost use Rattle.std.specs.Prelude.{◌≡◌, ◌≢◌, ◌+◌, ◌++◌, ◌≤◌, ◌^◌, List, ℕ, All, IfErr, IfOk, OnErr, OnOk, length};
+ghost use Rattle.std.specs.Prelude.{◌≡◌, ◌≢◌, ◌+◌, ◌≤◌, ◌^◌, List, ℕ, [], All, IfErr, IfOk, length};
 ghost use Rattle.fmp_base.specs.Texts.{whole_text};
 ghost use Rattle.fmp_image.specs.Building.{Builds};
 ghost use Rattle.fmp_instructions.specs.Machine.{code_meaning};
+ghost use Rattle.fmp_engine.specs.Counts.{counts_of};
 ghost use Rattle.fmp_engine.specs.Hosting.{FitsBoard, Hosts, HostsTexts, IsHosted, IsWhyHost, IsWhyNoJournal};
 ghost use Rattle.fmp_engine.specs.Hosting.{IsWorkload, load_for};
 ghost use Rattle.fmp_engine.specs.Simulations.{Simulates};
@@ -15,8 +16,9 @@ ghost use Rattle.fmp_image_bytes.specs.Images.{ImageTables, Spells};
 ghost use Rattle.fmp_journal.specs.Seats.{AreNew};
 ghost use Rattle.fmp_trace.specs.Steps.{steps_text};
 
+use crate::counts::{EventCounts, counts_of};
 use crate::events::Journal;
-use crate::play::play;
+use crate::play::{Subject, play};
 use fmp_base::Event;
 use fmp_hostrun::{Blank, Board, BoardFault, Closed, Gate, Load, Pace, Seat, Site, run_paced};
 use fmp_image::laws::built_image_prints_text;
@@ -211,48 +213,55 @@ fn journal_of<P: Pace, R: Threads + Wait + Sync>(
     taken_events(alloc, closed)
 }
 
-/// Appends a journal of an image as a steps text to a file, and all that the image prints over it to the output. If
-/// memory runs out, both stay as they were.
-fn append_journal(
-    alloc: Global,
-    image: &Image,
-    n: u64,
-    journal: &[Event],
-    file: &mut Vec<u8>,
-    out: &mut Vec<u8>,
-) -> Result<(), AllocError>
-    requires bound { (1 ≤ n) × (n ≤ 2 ^ 48) }
-    requires few { length journal.now ≤ 2 ^ 20 }
-    ensures file { OnOk result (file.new.items ≡ file.old.items ++ steps_text journal.now) }
-    ensures out { OnOk result (out.new.items
-        ≡ out.old.items ++ whole_text image.now.system (code_meaning image.now.code) n journal.now) }
-    ensures err { OnErr result ((file.new.items ≡ file.old.items) × (out.new.items ≡ out.old.items)) }
-{
-    image.keeps_rules();
-    let before = file.len();
-    print_steps(journal, file)?;
-    let mut events = Journal::new(journal);
-    let played = play(alloc, image.system(), image.vm(), n, &mut events, out);
-    if played.is_err() {
-        file.truncate(before);
-    }
-    played
+/// What the threads of an image made.
+#[derive(Drop)]
+pub struct Hosted {
+    /// Their journal: the events that did something, as a steps text.
+    pub journal: Vec<u8>,
+    /// The trace of the journal, and the states of the tasks at its end.
+    pub text: Vec<u8>,
+    /// How many events of each kind the journal has.
+    pub counts: EventCounts,
 }
 
-/// Loads an image, runs it by threads, and appends the journal and what the image prints over it.
-fn append_hosted<P: Pace, R: Threads + Wait + Sync>(
+/// A journal of an image as a steps text, with all that the image prints over it within n instructions a stretch.
+fn told(alloc: Global, image: &Image, n: u64, events: &[Event]) -> Result<Hosted, AllocError>
+    requires bound { (1 ≤ n) × (n ≤ 2 ^ 48) }
+    requires few { length events.now ≤ 2 ^ 20 }
+    ensures journal { IfOk result (λ made. made.journal.items ≡ steps_text events.now) }
+    ensures text { IfOk result
+        (λ made. made.text.items ≡ whole_text image.now.system (code_meaning image.now.code) n events.now) }
+    ensures counts { IfOk result (λ made. made.counts ≡ counts_of events.now) }
+{
+    image.keeps_rules();
+    let mut journal = Vec::new(alloc);
+    print_steps(events, &mut journal)?;
+    let mut text = Vec::new(alloc);
+    let subject = Subject {
+        system: image.system(),
+        body: image.vm(),
+        bound: n,
+    };
+    let mut coming = Journal::new(events);
+    play(alloc, subject, &mut coming, &mut text)?;
+    Ok(Hosted {
+        journal,
+        text,
+        counts: counts_of(events),
+    })
+}
+
+/// Loads an image and runs it by threads.
+fn host_image<P: Pace, R: Threads + Wait + Sync>(
     rt: &R,
     alloc: Global,
     image: &[u8],
     pace: &P,
     work: Workload,
-    file: &mut Vec<u8>,
-    out: &mut Vec<u8>,
-) -> Result<(), HostFault>
+) -> Result<Hosted, HostFault>
     requires { IsWorkload work }
-    ensures ok { OnOk result (Hosts image.now work file.old.items file.new.items out.old.items out.new.items) }
+    ensures ok { IfOk result (λ made. Hosts image.now work made.journal.items made.text.items made.counts) }
     ensures refused { IfErr result (λ f. IsWhyHost f image.now work) }
-    ensures err { OnErr result ((file.new.items ≡ file.old.items) × (out.new.items ≡ out.old.items)) }
 {
     let image = match load(alloc, image) {
         Ok(image) => image,
@@ -260,9 +269,7 @@ fn append_hosted<P: Pace, R: Threads + Wait + Sync>(
         Err(fault) => return Err(HostFault::Load(fault)),
     };
     let hosted = match journal_of(rt, alloc, &image, pace, work) {
-        Ok(journal) => append_journal(alloc, &image, work.bound, &journal, file, out).map_err(
-            |_| HostFault::Memory,
-        ),
+        Ok(events) => told(alloc, &image, work.bound, &events).map_err(|_| HostFault::Memory),
         Err(fault) => Err(fault),
     };
     drop(image);
@@ -270,35 +277,29 @@ fn append_hosted<P: Pace, R: Threads + Wait + Sync>(
 }
 
 /// Loads an image, and runs it by threads at this pace: one for each processor makes the turns, each of which lets its
-/// processor run once, one more makes the ticks, and one the interrupts. Then appends to the file the journal of the
-/// events that did something, as a steps text, and to the output the trace of the journal and the states of the tasks
-/// at its end.
+/// processor run once, one more makes the ticks, and one the interrupts. Gives the journal of the events that did
+/// something, and what the image prints over it.
 ///
 /// The image is judged first. Then, with P processors, P * turns + ticks + interrupts has to be 1 to 2^20, else it is
 /// `HostFault::Board(BoardFault::Limit)`. It is `HostFault::Board(BoardFault::Thread)` where a thread was refused, and
-/// never another fault of a board. The journal has at most one event of each turn, tick and interrupt. After an
-/// error nothing has been appended.
+/// never another fault of a board. The journal has at most one event of each turn, tick and interrupt.
 pub fn host<P: Pace, R: Threads + Wait + Sync>(
     rt: &R,
     alloc: Global,
     image: &[u8],
     pace: &P,
     work: Workload,
-    file: &mut Vec<u8>,
-    out: &mut Vec<u8>,
-) -> Result<(), HostFault>
+) -> Result<Hosted, HostFault>
     requires { IsWorkload work }
-    ensures ok { OnOk result (Hosts image.now work file.old.items file.new.items out.old.items out.new.items) }
-    // Where two texts build the image, what was appended is what they mean over the journal.
-    ensures headline { (cfg src : List ℕ) (i : ImageTables) (b : Builds cfg src i) → Spells i image.now → OnOk result
-        (HostsTexts i b.tasks.bodies work file.old.items file.new.items out.old.items out.new.items) }
-    // A simulation of the image over the steps that were appended prints the same.
-    ensures again { OnOk result ((steps : List ℕ) → file.new.items ≡ file.old.items ++ steps
-        → Simulates image.now steps work.bound out.old.items out.new.items) }
+    ensures ok { IfOk result (λ made. Hosts image.now work made.journal.items made.text.items made.counts) }
+    // Where two texts build the image, what it prints is what they mean over the journal.
+    ensures headline { (cfg src : List ℕ) (i : ImageTables) (b : Builds cfg src i) → Spells i image.now → IfOk result
+        (λ made. HostsTexts i b.tasks.bodies work made.journal.items made.text.items) }
+    // A simulation of the image over the journal prints the same.
+    ensures again { IfOk result (λ made. Simulates image.now made.journal.items work.bound [] made.text.items) }
     ensures refused { IfErr result (λ f. IsWhyHost f image.now work) }
-    ensures err { OnErr result ((file.new.items ≡ file.old.items) × (out.new.items ≡ out.old.items)) }
 {
     built_image_prints_text();
     printed_steps_read_back();
-    append_hosted(rt, alloc, image, pace, work, file, out)
+    host_image(rt, alloc, image, pace, work)
 }

@@ -2,6 +2,7 @@
 #![tactic(auto)]
 
 mod building;
+mod counts;
 mod events;
 mod fault;
 mod hosting;
@@ -10,7 +11,8 @@ mod play;
 mod simulation;
 
 pub use building::{build_image, check};
+pub use counts::EventCounts;
 pub use fault::{SimCut, SimFault};
-pub use hosting::{HostFault, Workload, host};
+pub use hosting::{HostFault, Hosted, Workload, host};
 pub use outlet::{Outlet, Stopped};
 pub use simulation::{sim, sim_into};

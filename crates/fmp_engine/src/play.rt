@@ -1,7 +1,7 @@
 //! A run of a system on the kernel, and its text.
 
 ghost use Rattle.std.specs.Prelude.{◌≡◌, ℕ, [], ◌+◌, ◌++◌, ◌<◌, ◌≤◌, ◌^◌, length, map, OnOk, OnErr, IfErr};
-ghost use Rattle.std.specs.Prelude.{vec_capacity, vec_len};
+ghost use Rattle.std.specs.Prelude.{vec_capacity, vec_len, IfOk};
 ghost use Rattle.fmp_base.specs.Ranges.{IsInRange};
 ghost use Rattle.fmp_base.specs.Runs.{task_state};
 ghost use Rattle.fmp_base.specs.Setups.{setup};
@@ -11,7 +11,7 @@ ghost use Rattle.fmp_base.specs.Texts.{lines_text, states_text, whole_text};
 ghost use Rattle.fmp_contexts.specs.Contexts.{Entered};
 ghost use Rattle.fmp_kernel.specs.KernelViews.{view_of_setup};
 ghost use Rattle.fmp_engine.specs.Outlets.{Given, GivenFront};
-ghost use Rattle.fmp_engine.specs.Plays.{HasGiven, IsWhyCut, text_of_events};
+ghost use Rattle.fmp_engine.specs.Plays.{AreFree, HasGiven, IsWhyCut, text_of_events};
 
 use crate::events::Events;
 use crate::fault::TextCut;
@@ -118,25 +118,44 @@ fn put_states<B: Body>(kernel: &Kernel<B>, count: u8, states: &mut Vec<TaskState
     }
 }
 
+/// What the end of a run is put together in: what fills no page, and the states of the tasks.
+#[derive(Drop)]
+struct Buffers {
+    text: Vec<u8>,
+    states: Vec<TaskState>,
+}
+
+impl Buffers {
+    /// Buffers in which nothing stands, with room for the end of any run.
+    fn new(alloc: Global) -> Result<Buffers, AllocError>
+        ensures { IfOk result AreFree }
+    {
+        Ok(Buffers {
+            text: Vec::with_capacity(alloc, PIECE_ROOM)?,
+            states: Vec::with_capacity(alloc, TASKS_MAX)?,
+        })
+    }
+}
+
 /// Gives the outlet the text that was put together, and after it the states of all tasks.
 fn give_states<B: Body, T: Outlet>(
     sys: &System,
     kernel: &Kernel<B>,
-    text: &mut Vec<u8>,
-    states: &mut Vec<TaskState>,
+    buffers: &mut Buffers,
     outlet: &mut T,
 ) -> Result<(), Stopped>
     requires system { kernel.now.system ≡ tables_of sys.now }
     requires tasks { length sys.now.tasks.items ≤ TASKS_MAX }
-    requires short { vec_len text.old < PIECE }
-    requires room { PIECE_ROOM ≤ vec_capacity text.old }
-    requires no_states { states.old.items ≡ [] }
-    requires states_room { TASKS_MAX ≤ vec_capacity states.old }
+    requires short { vec_len buffers.old.text < PIECE }
+    requires room { PIECE_ROOM ≤ vec_capacity buffers.old.text }
+    requires no_states { buffers.old.states.items ≡ [] }
+    requires states_room { TASKS_MAX ≤ vec_capacity buffers.old.states }
     ensures ok { OnOk result (Given T.gave outlet.old outlet.new []
-        (text.old.items ++ states_text (tables_of sys.now) kernel.now.world.state)) }
+        (buffers.old.text.items ++ states_text (tables_of sys.now) kernel.now.world.state)) }
     ensures err { OnErr result (GivenFront T.stopped outlet.old outlet.new
-        (text.old.items ++ states_text (tables_of sys.now) kernel.now.world.state)) }
+        (buffers.old.text.items ++ states_text (tables_of sys.now) kernel.now.world.state)) }
 {
+    let Buffers { text, states } = buffers;
     put_states(kernel, sys.tasks.len() as u8, states);
     if print_states(sys, states.as_slice(), text).is_err() {
         unreachable!();
@@ -151,18 +170,14 @@ fn give_from_setup<B: Body, E: Events, T: Outlet>(
     sys: &System,
     kernel: &mut Kernel<B>,
     events: &mut E,
-    text: &mut Vec<u8>,
-    states: &mut Vec<TaskState>,
+    buffers: &mut Buffers,
     outlet: &mut T,
 ) -> Result<(), Stopped>
     requires system { kernel.old.system ≡ tables_of sys.now }
     requires fresh { kernel.old.taken ≡ 0 }
     requires tasks { length sys.now.tasks.items ≤ TASKS_MAX }
     requires few { length (E.left events.old) ≤ 2 ^ 20 }
-    requires no_text { text.old.items ≡ [] }
-    requires room { PIECE_ROOM ≤ vec_capacity text.old }
-    requires no_states { states.old.items ≡ [] }
-    requires states_room { TASKS_MAX ≤ vec_capacity states.old }
+    requires free { AreFree buffers.old }
     ensures ok { (body : B) (n : ℕ) →
         kernel.old ≡ view_of_setup body n (tables_of sys.now) (setup (tables_of sys.now) (B.meaning body)) →
         OnOk result (Given T.gave outlet.old outlet.new []
@@ -176,38 +191,47 @@ fn give_from_setup<B: Body, E: Events, T: Outlet>(
     print_setup(sys, kernel, &mut page);
     give_piece(&mut page, outlet)?;
     take(sys, kernel, events, &mut page, outlet)?;
-    page.finish(text);
-    give_states(sys, kernel, text, states, outlet)
+    page.finish(&mut buffers.text);
+    give_states(sys, kernel, buffers, outlet)
 }
 
-/// Makes a kernel, and gives the outlet the text of its run over events.
-fn give_run<B: Body + Drop, E: Events, T: Outlet>(
+/// What is run: a system by its bodies, within a bound of 1 to 2^48 units a stretch.
+pub struct Subject<'a, B: Body> {
+    pub system: &'a System,
+    pub body: B,
+    pub bound: u64,
+}
+
+/// Runs a system over events, and gives the outlet all that it prints, piece by piece. Memory can run out only before
+/// the first piece.
+pub fn play_into<B: Body + Drop, E: Events, T: Outlet>(
     alloc: Global,
-    sys: &System,
-    body: B,
-    n: u64,
+    subject: Subject<'_, B>,
     events: &mut E,
-    text: &mut Vec<u8>,
-    states: &mut Vec<TaskState>,
     outlet: &mut T,
 ) -> Result<(), TextCut>
-    requires low { 1 ≤ n }
-    requires high { n ≤ 2 ^ 48 }
-    requires entries { Entered B.has_entry body (tables_of sys.now) }
-    requires range { IsInRange (tables_of sys.now) }
+    requires low { 1 ≤ subject.bound }
+    requires high { subject.bound ≤ 2 ^ 48 }
+    requires entries { Entered B.has_entry subject.body (tables_of subject.system.now) }
+    requires range { IsInRange (tables_of subject.system.now) }
     requires few { length (E.left events.old) ≤ 2 ^ 20 }
-    requires no_text { text.old.items ≡ [] }
-    requires room { PIECE_ROOM ≤ vec_capacity text.old }
-    requires no_states { states.old.items ≡ [] }
-    requires states_room { TASKS_MAX ≤ vec_capacity states.old }
-    ensures ok { OnOk result (Given T.gave outlet.old outlet.new []
-        (whole_text (tables_of sys.now) (B.meaning body) n (E.left events.old))) }
+    ensures ok { OnOk result (Given T.gave outlet.old outlet.new [] (whole_text (tables_of subject.entry.system.now)
+        (B.meaning subject.entry.body) subject.entry.bound (E.left events.old))) }
     ensures err { IfErr result (IsWhyCut T.gave T.stopped outlet.old outlet.new
-        (whole_text (tables_of sys.now) (B.meaning body) n (E.left events.old))) }
+        (whole_text (tables_of subject.entry.system.now)
+        (B.meaning subject.entry.body) subject.entry.bound (E.left events.old))) }
 {
-    match Kernel::new(alloc, body, sys, n) {
+    let Subject {
+        system,
+        body,
+        bound,
+    } = subject;
+    let Ok(mut buffers) = Buffers::new(alloc) else {
+        return Err(TextCut::Memory);
+    };
+    match Kernel::new(alloc, body, system, bound) {
         Ok(mut kernel) => {
-            let given = give_from_setup(sys, &mut kernel, events, text, states, outlet);
+            let given = give_from_setup(system, &mut kernel, events, &mut buffers, outlet);
             drop(kernel);
             match given {
                 Ok(()) => Ok(()),
@@ -218,56 +242,26 @@ fn give_run<B: Body + Drop, E: Events, T: Outlet>(
     }
 }
 
-/// Runs a system over events within n units a stretch, and gives the outlet all that it prints, piece by piece. Memory
-/// can run out only before the first piece.
-pub fn play_into<B: Body + Drop, E: Events, T: Outlet>(
-    alloc: Global,
-    sys: &System,
-    body: B,
-    n: u64,
-    events: &mut E,
-    outlet: &mut T,
-) -> Result<(), TextCut>
-    requires low { 1 ≤ n }
-    requires high { n ≤ 2 ^ 48 }
-    requires entries { Entered B.has_entry body (tables_of sys.now) }
-    requires range { IsInRange (tables_of sys.now) }
-    requires few { length (E.left events.old) ≤ 2 ^ 20 }
-    ensures ok { OnOk result (Given T.gave outlet.old outlet.new []
-        (whole_text (tables_of sys.now) (B.meaning body) n (E.left events.old))) }
-    ensures err { IfErr result (IsWhyCut T.gave T.stopped outlet.old outlet.new
-        (whole_text (tables_of sys.now) (B.meaning body) n (E.left events.old))) }
-{
-    let Ok(mut text) = Vec::with_capacity(alloc, PIECE_ROOM) else {
-        return Err(TextCut::Memory);
-    };
-    let Ok(mut states) = Vec::with_capacity(alloc, TASKS_MAX) else {
-        return Err(TextCut::Memory);
-    };
-    give_run(alloc, sys, body, n, events, &mut text, &mut states, outlet)
-}
-
-/// Runs a system over events within n units a stretch, and appends all that it prints. Running out of memory is the
-/// only error; then nothing is appended.
+/// Runs a system over events, and appends all that it prints. Running out of memory is the only error; then nothing is
+/// appended.
 pub fn play<B: Body + Drop, E: Events>(
     alloc: Global,
-    sys: &System,
-    body: B,
-    n: u64,
+    subject: Subject<'_, B>,
     events: &mut E,
     out: &mut Vec<u8>,
 ) -> Result<(), AllocError>
-    requires low { 1 ≤ n }
-    requires high { n ≤ 2 ^ 48 }
-    requires entries { Entered B.has_entry body (tables_of sys.now) }
-    requires range { IsInRange (tables_of sys.now) }
+    requires low { 1 ≤ subject.bound }
+    requires high { subject.bound ≤ 2 ^ 48 }
+    requires entries { Entered B.has_entry subject.body (tables_of subject.system.now) }
+    requires range { IsInRange (tables_of subject.system.now) }
     requires few { length (E.left events.old) ≤ 2 ^ 20 }
-    ensures ok { OnOk result
-        (out.new.items ≡ out.old.items ++ whole_text (tables_of sys.now) (B.meaning body) n (E.left events.old)) }
+    ensures ok { OnOk result (out.new.items ≡ out.old.items
+        ++ whole_text (tables_of subject.entry.system.now)
+        (B.meaning subject.entry.body) subject.entry.bound (E.left events.old)) }
     ensures err { OnErr result (out.new.items ≡ out.old.items) }
 {
     let before = out.len();
-    match play_into(alloc, sys, body, n, events, out) {
+    match play_into(alloc, subject, events, out) {
         Ok(()) => return Ok(()),
         Err(TextCut::Memory) => {}
         Err(TextCut::Stopped) => out.truncate(before),

@@ -7,7 +7,7 @@ ghost use Rattle.fmp_image_bytes.specs.Images.{ImageTables, Spells};
 
 use crate::fault::{SimCut, SimFault, TextCut};
 use crate::outlet::Outlet;
-use crate::play::play_into;
+use crate::play::{Subject, play_into};
 use fmp_image::laws::built_image_prints_text;
 use fmp_image_bytes::{Image, LoadFault, load};
 use fmp_trace::Steps;
@@ -34,7 +34,12 @@ fn simulate_image<T: Outlet>(
         Ok(events) => events,
         Err(fault) => return Err(SimCut::Refused(SimFault::Steps(fault))),
     };
-    match play_into(alloc, system, image.vm(), n, &mut events, outlet) {
+    let subject = Subject {
+        system,
+        body: image.vm(),
+        bound: n,
+    };
+    match play_into(alloc, subject, &mut events, outlet) {
         Ok(()) => Ok(()),
         Err(TextCut::Memory) => Err(SimCut::Refused(SimFault::Memory)),
         Err(TextCut::Stopped) => Err(SimCut::Stopped),

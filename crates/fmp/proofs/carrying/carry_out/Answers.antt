@@ -21,8 +21,8 @@ returns-in_err-write_output-clause-err g c =
     let texts = map (λ t. t.items) c.deref.result.now in
     let read = subst (λ ts. AreInputs files cmd (map (λ t. t.items) ts))
     (sym c.deref.ensures.value) c.in_ok-texts.ensures.texts in
-    let file = c.in_ok-file.file.items in
-    let out = c.in_ok-file.out.items in
+    let file = c.in_ok-file.field-0.file.items in
+    let out = c.in_ok-file.field-0.out.items in
     let performs : Performs files cmd file out = record {
       inputs = texts;
       read = read;

@@ -21,8 +21,8 @@ returns-in-Ok-carry_out g c =
     c.print-status.ensures in
     let ended = subst (λ can_fail. EndsPrinting c.in-Ok-carry_out.out.items can_fail between after
     c.print-status.result) c.in-Ok-carry_out.ensures.output printed in
-    done c.in-Ok-carry_out.out.items between after c.requires.kept c.in-Ok-carry_out.ensures.ok ended
-    c.say_arrivals.ensures
+    done c.in-Ok-carry_out.out.items c.in-Ok-carry_out.counts between after c.requires.kept
+    c.in-Ok-carry_out.ensures.ok ended c.say_arrivals.ensures
 
 pub returns : goal.returns
 returns g c =

@@ -16,7 +16,7 @@ returns-clause-ok g c body n start =
     let es = g.E.Events.left c.args.events.now in
     let first : c.print_setup.new.page ≡ lines_text sys 0 k.lines = search rules in
     let left : c.finish.new.out.items ≡ c.take.new.page =
-    c.finish.ensures.text ∙ ap (λ (xs : List ℕ). xs ++ c.take.new.page) c.requires.no_text in
+    c.finish.ensures.text ∙ ap (λ (xs : List ℕ). xs ++ c.take.new.page) c.requires.free.no_text in
     on_ok_then c.give_states.result
     (λ last. run_given g.T.Outlet.gave g.T.Outlet.stopped g.met.T.Outlet.gave_more g.met.T.Outlet.stopped_later _ _ _ _
     c.print_setup.new.page c.give_piece.new.page c.take.new.page _ (text_of_events meaning k es)
@@ -35,7 +35,7 @@ returns-clause-err g c body n start =
     let es = g.E.Events.left c.args.events.now in
     let first : c.print_setup.new.page ≡ lines_text sys 0 k.lines = search rules in
     let left : c.finish.new.out.items ≡ c.take.new.page =
-    c.finish.ensures.text ∙ ap (λ (xs : List ℕ). xs ++ c.take.new.page) c.requires.no_text in
+    c.finish.ensures.text ∙ ap (λ (xs : List ℕ). xs ++ c.take.new.page) c.requires.free.no_text in
     on_err_then c.give_states.result
     (λ last. end_stopped g.T.Outlet.gave g.T.Outlet.stopped g.met.T.Outlet.gave_more g.met.T.Outlet.stopped_later _ _
     _ _

@@ -13,7 +13,7 @@ pub returns-clause-ok : goal.returns-clause-ok
 returns-clause-ok g c =
     let sys = tables_of c.args.sys.now in
     let now = c.args.kernel.now.world.state in
-    let before = c.args.text.now.items in
+    let before = c.args.buffers.now.text.items in
     let count : vec_len c.args.sys.now.tasks ≡ length c.args.sys.now.tasks.items = search rules in
     let printed : c.print_states.new.out.items ≡ before ++ listed_states_text sys 0 c.as_slice.result.now = search
     rules in
@@ -31,7 +31,7 @@ pub returns-clause-err : goal.returns-clause-err
 returns-clause-err g c =
     let sys = tables_of c.args.sys.now in
     let now = c.args.kernel.now.world.state in
-    let before = c.args.text.now.items in
+    let before = c.args.buffers.now.text.items in
     let count : vec_len c.args.sys.now.tasks ≡ length c.args.sys.now.tasks.items = search rules in
     let printed : c.print_states.new.out.items ≡ before ++ listed_states_text sys 0 c.as_slice.result.now = search
     rules in
