@@ -26,12 +26,12 @@ pub record Exact {A : Type 0} (f : Field A) : Type 0 where
 
 -- ---- bytes
 
-IsBytes-behind : (xs ys : List ℕ) → IsBytes (xs ++ ys) → IsBytes ys
-IsBytes-behind [] ys h = h
-IsBytes-behind (x ∷ xs) ys h = IsBytes-behind xs ys (λ i. h (suc i))
+IsBytes-after : (xs ys : List ℕ) → IsBytes (xs ++ ys) → IsBytes ys
+IsBytes-after [] ys h = h
+IsBytes-after (x ∷ xs) ys h = IsBytes-after xs ys (λ i. h (suc i))
 
 pub rest_is_bytes : (bytes front rest : List ℕ) → bytes ≡ front ++ rest → IsBytes bytes → IsBytes rest
-rest_is_bytes bytes front rest e h = IsBytes-behind front rest (subst IsBytes e h)
+rest_is_bytes bytes front rest e h = IsBytes-after front rest (subst IsBytes e h)
 
 IsBytes-take : (n : ℕ) (bytes : List ℕ) → IsBytes bytes → IsBytes (take n bytes)
 IsBytes-take n bytes h i =

@@ -43,12 +43,12 @@ one_table : {F A : Type 0} (form : RowForm F A) → ((context : RowContext) → 
 one_table form back context taken = table_exact (row form context) form.key_of
     (row_exact form context (back context)) taken
 
-also_exact : {F A B : Type 0} (form : RowForm F A) (behind : RowContext → List Key → Field B)
+also_exact : {F A B : Type 0} (form : RowForm F A) (later : RowContext → List Key → Field B)
     → ((context : RowContext) → GoesBack form context) → ((context : RowContext) (taken : List Key)
-    → Exact (behind context taken))
-    → (context : RowContext) (taken : List Key) → Exact (also form behind context taken)
-also_exact form behind back rest context taken =
-    chained_exact (table_of form context taken) (λ rows. behind context (taken ++ map form.key_of rows))
+    → Exact (later context taken))
+    → (context : RowContext) (taken : List Key) → Exact (also form later context taken)
+also_exact form later back rest context taken =
+    chained_exact (table_of form context taken) (λ rows. later context (taken ++ map form.key_of rows))
     (one_table form back context taken) (λ rows. rest context (taken ++ map form.key_of rows))
 
 tables_exact : (context : RowContext) (taken : List Key) → Exact (tables context taken)
@@ -77,16 +77,16 @@ processors_fit n h = let high : n ≤ 8 = leb-true _ _ (and_true _ _ h).1 in ome
 
 module _ {F A : Type 0} (form : RowForm F A) (context : RowContext) (taken : List Key) (rows : List A) where
   -- the keys of a table are new, and those after it are new with them
-  peel : (behind : List Key) → KeepRules form context rows → are_new taken (map form.key_of rows ++ behind) ≡ true
-      → AreRows (row form context) form.key_of taken rows × (are_new (taken ++ map form.key_of rows) behind ≡ true)
-  peel behind rules new =
-      let parts = and_true _ _ (sym (new_append taken (map form.key_of rows) behind) ∙ new) in
+  peel : (later : List Key) → KeepRules form context rows → are_new taken (map form.key_of rows ++ later) ≡ true
+      → AreRows (row form context) form.key_of taken rows × (are_new (taken ++ map form.key_of rows) later ≡ true)
+  peel later rules new =
+      let parts = and_true _ _ (sym (new_append taken (map form.key_of rows) later) ∙ new) in
       (record { count = rules.count; each = rules.each; once = parts.0 }, parts.1)
 
-  gather : (behind : List Key) → AreRows (row form context) form.key_of taken rows
-      → are_new (taken ++ map form.key_of rows) behind ≡ true
-      → are_new taken (map form.key_of rows ++ behind) ≡ true
-  gather behind rules new = new_append taken (map form.key_of rows) behind ∙ both_true _ _ rules.once new
+  gather : (later : List Key) → AreRows (row form context) form.key_of taken rows
+      → are_new (taken ++ map form.key_of rows) later ≡ true
+      → are_new taken (map form.key_of rows ++ later) ≡ true
+  gather later rules new = new_append taken (map form.key_of rows) later ∙ both_true _ _ rules.once new
 
   rules_of : AreRows (row form context) form.key_of taken rows → KeepRules form context rows
   rules_of rules = record { count = rules.count; each = rules.each }

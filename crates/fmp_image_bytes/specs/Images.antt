@@ -48,8 +48,8 @@ table_of form context taken = table (row form context) form.key_of taken
 -- a table, and what stands after it with its keys taken too
 abbrev pub also : {F A B : Type 0} → RowForm F A → (RowContext → List Key → Field B) → RowContext → List Key
     → Field (List A × B)
-also form behind context taken =
-    chained (table_of form context taken) (λ rows. behind context (taken ++ map form.key_of rows))
+also form later context taken =
+    chained (table_of form context taken) (λ rows. later context (taken ++ map form.key_of rows))
 
 abbrev pub TheLaterTables : Type 0
 TheLaterTables = List MessageConfig × (List SharedWordConfig × (List SpinLockConfig × (List CyclicConfig

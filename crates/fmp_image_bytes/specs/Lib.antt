@@ -1,6 +1,7 @@
 pub mod Bodies
 pub mod Fields
 pub mod Header
+pub mod ImageContexts
 pub mod Images
 pub mod Instructions
 pub mod KeyLaws
@@ -10,5 +11,6 @@ pub mod OlderImages
 pub mod Pairs
 pub mod Ranges
 pub mod Rows
+pub mod Slots
 pub mod Tables
 pub mod Versions

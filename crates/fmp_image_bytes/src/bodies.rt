@@ -16,7 +16,7 @@ ghost use Rattle.fmp_image_bytes.specs.Bodies.{body_spelled, body_at, IsBody, bo
 use crate::fault::{ImageFault, LoadFault, TABLE};
 use crate::fields::{byte_at, in_range, put_byte, put_short, put_word, short_at};
 use crate::heads::{BodyHead, BodyKind};
-use crate::instructions::{argument_of, opcode_of, push_instruction};
+use crate::instructions::{Slot, argument_of, opcode_of, push_instruction};
 use byteorder::{ByteOrder, LittleEndian};
 use fmp_instructions::{BodyCode, Instruction};
 use std::alloc::{AllocError, Global};
@@ -40,8 +40,8 @@ fn put_steps(
     requires { length depths.now ≡ length instructions.now }
     ensures { OnOk result (out.new.items ≡ out.old.items ++ pairs_spelled step_spelled instructions.now depths.now) }
 {
-    for place in 0..instructions.len() {
-        put_step(out, instructions[place], depths[place])?;
+    for position in 0..instructions.len() {
+        put_step(out, instructions[position], depths[position])?;
     }
     Ok(())
 }
@@ -76,45 +76,31 @@ fn read_depths(alloc: Global, size: u16, bytes: &[u8]) -> Result<Vec<u8>, LoadFa
     ensures fault { IfErr result (λ fault. fault ≡ Memory) }
 {
     let mut depths = Vec::with_capacity(alloc, size as usize)?;
-    for place in 0..size as usize {
-        depths.push_reserved(bytes[6 * place + 5]);
+    for position in 0..size as usize {
+        depths.push_reserved(bytes[6 * position + 5]);
     }
     Ok(depths)
 }
 
-/// Appends the instruction that the first six bytes spell, if they spell one that is fit to stand at this place of a
-/// body: whether they do. There is room for it.
+/// Appends the instruction that the first six bytes spell, if they spell one that is fit to stand there: whether they
+/// do. There is room for it.
 #[inline(always)]
-fn push_step(
-    version: u16,
-    locals: u8,
-    depths: &[u8],
-    place: usize,
-    bytes: &[u8],
-    instructions: &mut Vec<Instruction>,
-) -> bool
+fn push_step(slot: Slot<'_>, bytes: &[u8], instructions: &mut Vec<Instruction>) -> bool
     requires bytes { 6 ≤ length bytes.now }
-    requires place { place < length depths.now }
-    requires depth { get_or depths.now place 0 ≡ get_or bytes.now 5 0 }
-    requires low { AreLow depths.now }
+    requires position { slot.position < length slot.depths.now }
+    requires depth { get_or slot.depths.now slot.position 0 ≡ get_or bytes.now 5 0 }
+    requires low { AreLow slot.depths.now }
     requires room { vec_len instructions.old < vec_capacity instructions.old }
-    ensures pushed { IfOk (step_at version bytes.now) (λ x. (result ≡ fits locals depths.now place x.0.1 x.0.0)
-        × (x.0.1 ≡ get_or depths.now place 0) × (x.1 ≡ drop 6 bytes.now)
+    ensures pushed { IfOk (step_at slot.entry.version bytes.now)
+        (λ x. (result ≡ fits slot.entry.locals slot.entry.depths.now slot.entry.position x.0.1 x.0.0)
+        × (x.0.1 ≡ get_or slot.entry.depths.now slot.entry.position 0) × (x.1 ≡ drop 6 bytes.now)
         × (instructions.new.items ≡ instructions.old.items ++ x.0.0 ∷ [])) }
-    ensures refused { IfErr (step_at version bytes.now) (λ fault. (result ≡ false) × (fault ≡ Code)) }
+    ensures refused { IfErr (step_at slot.entry.version bytes.now) (λ fault. (result ≡ false) × (fault ≡ Code)) }
     ensures size { vec_len instructions.new ≤ vec_len instructions.old + 1 }
     ensures capacity { vec_capacity instructions.new ≡ vec_capacity instructions.old }
 {
     let argument = LittleEndian::read_i32(&bytes[1..]);
-    push_instruction(
-        version,
-        locals,
-        depths,
-        place,
-        bytes[0],
-        argument,
-        instructions,
-    )
+    push_instruction(slot, bytes[0], argument, instructions)
 }
 
 /// The instructions of a body with these depths. Each is judged as it is read.
@@ -134,15 +120,14 @@ fn read_steps(
         (kept_code locals (pairs_at (step_at version) (length depths.now) bytes.now)) }
 {
     let mut instructions = Vec::with_capacity(alloc, depths.len())?;
-    for place in 0..depths.len() {
-        if !push_step(
+    for position in 0..depths.len() {
+        let slot = Slot {
             version,
             locals,
             depths,
-            place,
-            &bytes[6 * place..],
-            &mut instructions,
-        ) {
+            position,
+        };
+        if !push_step(slot, &bytes[6 * position..], &mut instructions) {
             return Err(CODE);
         }
     }

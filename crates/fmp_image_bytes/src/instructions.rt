@@ -1,12 +1,16 @@
 //! Instructions as opcodes and arguments.
 
-ghost use Rattle.std.specs.Prelude.{◌≡◌, ◌<◌, ◌≤◌, ◌+◌, ◌++◌, ◌∷◌, [], get_or, length, pos, true, false, vec_len};
-ghost use Rattle.std.specs.Prelude.{vec_capacity, MatchOption};
-ghost use Rattle.fmp_instructions.specs.Verify.{AreLow, fits};
+ghost use Rattle.std.specs.Prelude.{◌≡◌, ◌<◌, ◌≤◌, ◌+◌, ◌++◌, ◌∷◌, [], length, pos, true, false, vec_len};
+ghost use Rattle.std.specs.Prelude.{None, Some, if◌then◌else◌, nat_eq, option_map, vec_capacity, MatchOption};
+ghost use Rattle.fmp_instructions.specs.declared.instructions.Instruction.TheVariants.{Binary, End, Jump, JumpIfZero};
+ghost use Rattle.fmp_instructions.specs.declared.instructions.Instruction.TheVariants.{Load, LoadIndexed, Store};
+ghost use Rattle.fmp_instructions.specs.declared.instructions.Instruction.TheVariants.{StoreIndexed};
+ghost use Rattle.fmp_instructions.specs.Verify.{AreLow};
 ghost use Rattle.fmp_image_bytes.specs.Instructions.{unary_number, binary_number, local_number, call_number, opcode_of};
 ghost use Rattle.fmp_image_bytes.specs.Instructions.{argument_of, local_of, service_of_number, unary_of};
 ghost use Rattle.fmp_image_bytes.specs.Instructions.{binary_operator_of, call_of, array_number, numbered};
-ghost use Rattle.fmp_image_bytes.specs.Instructions.{instruction_in};
+ghost use Rattle.fmp_image_bytes.specs.Instructions.{array_of, below, instruction_in};
+ghost use Rattle.fmp_image_bytes.specs.Slots.{fits_slot};
 ghost use Rattle.fmp_image_bytes.specs.Versions.{of_version};
 
 use crate::versions::has;
@@ -206,172 +210,203 @@ fn call_of(number: u32) -> Option<Instruction>
     }
 }
 
-/// Appends an instruction: whether it is fit to stand at this place of a body. There is room for it.
+/// A number below 256.
 #[inline(always)]
-fn push_fit(
-    locals: u8,
-    depths: &[u8],
-    place: usize,
-    instruction: Instruction,
-    out: &mut Vec<Instruction>,
-) -> bool
+fn byte_of(number: u32) -> Option<u8>
+    ensures { result ≡ below 256 number }
+{
+    if number < 256 {
+        Some(number as u8)
+    } else {
+        None
+    }
+}
+
+/// A number below 65536.
+#[inline(always)]
+fn short_of(number: u32) -> Option<u16>
+    ensures { result ≡ below 65536 number }
+{
+    if number < 65536 {
+        Some(number as u16)
+    } else {
+        None
+    }
+}
+
+#[inline(always)]
+fn load_of(number: u32) -> Option<Instruction>
+    ensures { result ≡ option_map Load (below 256 number) }
+{
+    Some(Instruction::Load(byte_of(number)?))
+}
+
+#[inline(always)]
+fn store_of(number: u32) -> Option<Instruction>
+    ensures { result ≡ option_map Store (below 256 number) }
+{
+    Some(Instruction::Store(byte_of(number)?))
+}
+
+#[inline(always)]
+fn binary_of(number: u32) -> Option<Instruction>
+    ensures { result ≡ option_map Binary (binary_operator_of number) }
+{
+    Some(Instruction::Binary(binary_operator_of(number)?))
+}
+
+#[inline(always)]
+fn jump_of(number: u32) -> Option<Instruction>
+    ensures { result ≡ option_map Jump (below 65536 number) }
+{
+    Some(Instruction::Jump(short_of(number)?))
+}
+
+#[inline(always)]
+fn jump_if_zero_of(number: u32) -> Option<Instruction>
+    ensures { result ≡ option_map JumpIfZero (below 65536 number) }
+{
+    Some(Instruction::JumpIfZero(short_of(number)?))
+}
+
+#[inline(always)]
+fn end_of(number: u32) -> Option<Instruction>
+    ensures { result ≡ (if nat_eq number 0 then Some End else None) }
+{
+    if number == 0 {
+        Some(Instruction::End)
+    } else {
+        None
+    }
+}
+
+#[inline(always)]
+fn indexed_load_of(number: u32) -> Option<Instruction>
+    ensures { result ≡ array_of LoadIndexed number }
+{
+    let number = short_of(number)?;
+    Some(Instruction::LoadIndexed {
+        base: (number % 256) as u8,
+        places: (number / 256) as u8,
+    })
+}
+
+#[inline(always)]
+fn indexed_store_of(number: u32) -> Option<Instruction>
+    ensures { result ≡ array_of StoreIndexed number }
+{
+    let number = short_of(number)?;
+    Some(Instruction::StoreIndexed {
+        base: (number % 256) as u8,
+        places: (number / 256) as u8,
+    })
+}
+
+/// A position of a body that is read: what is known of the image and the body, and the position.
+#[derive(Clone, Copy)]
+pub struct Slot<'a> {
+    /// The version of the image.
+    pub version: u16,
+    /// How many locals the body has.
+    pub locals: u8,
+    /// How many operands stand before each of its instructions.
+    pub depths: &'a [u8],
+    /// Which instruction it is, from 0.
+    pub position: usize,
+}
+
+/// Appends an instruction: whether it is fit to stand there. There is room for it.
+#[inline(always)]
+fn push_fit(slot: Slot<'_>, instruction: Instruction, out: &mut Vec<Instruction>) -> bool
     requires room { vec_len out.old < vec_capacity out.old }
-    requires place { place < length depths.now }
-    requires low { AreLow depths.now }
-    ensures fits { result ≡ fits locals depths.now place (get_or depths.now place 0) instruction }
+    requires position { slot.position < length slot.depths.now }
+    requires low { AreLow slot.depths.now }
+    ensures fits { result ≡ fits_slot slot.entry instruction }
     ensures items { out.new.items ≡ out.old.items ++ instruction ∷ [] }
     ensures size { vec_len out.new ≡ vec_len out.old + 1 }
     ensures capacity { vec_capacity out.new ≡ vec_capacity out.old }
 {
+    let Slot {
+        version: _,
+        locals,
+        depths,
+        position,
+    } = slot;
     out.push_reserved(instruction);
-    is_fit(locals, depths, place, depths[place] as usize, instruction)
+    is_fit(
+        locals,
+        depths,
+        position,
+        depths[position] as usize,
+        instruction,
+    )
 }
 
-/// Appends an instruction if the version has it: whether it does, and the instruction is fit to stand at this place of
-/// a body. There is room for it.
+/// Appends an instruction if the version has it: whether there is one, the version has it, and it is fit to stand
+/// there. There is room for it.
 #[inline(always)]
-fn push_of_version(
-    version: u16,
-    locals: u8,
-    depths: &[u8],
-    place: usize,
-    instruction: Instruction,
-    out: &mut Vec<Instruction>,
-) -> bool
+fn push_some(slot: Slot<'_>, instruction: Option<Instruction>, out: &mut Vec<Instruction>) -> bool
     requires room { vec_len out.old < vec_capacity out.old }
-    requires place { place < length depths.now }
-    requires low { AreLow depths.now }
-    ensures pushed { MatchOption (of_version version (Some instruction)) (result ≡ false)
-        (λ i. (result ≡ fits locals depths.now place (get_or depths.now place 0) i)
-        × (out.new.items ≡ out.old.items ++ i ∷ [])) }
+    requires position { slot.position < length slot.depths.now }
+    requires low { AreLow slot.depths.now }
+    ensures pushed { MatchOption (of_version slot.entry.version instruction) (result ≡ false)
+        (λ i. (result ≡ fits_slot slot.entry i) × (out.new.items ≡ out.old.items ++ i ∷ [])) }
     ensures size { vec_len out.new ≤ vec_len out.old + 1 }
     ensures capacity { vec_capacity out.new ≡ vec_capacity out.old }
 {
-    has(version, instruction) && push_fit(locals, depths, place, instruction, out)
+    match instruction {
+        Some(instruction) => has(slot.version, instruction) && push_fit(slot, instruction, out),
+        None => false,
+    }
 }
 
 /// Appends the instruction of an opcode, but for `Push`, and an argument, if the version has one: whether it has, and
-/// it is fit to stand at this place of a body. There is room for it. Each is judged where its kind is known.
+/// it is fit to stand there. There is room for it. Each is judged where its kind is known.
 #[inline(always)]
 #[tactic(auto, unfolding(crate::specs::Instructions::numbered))]
-fn push_numbered(
-    version: u16,
-    locals: u8,
-    depths: &[u8],
-    place: usize,
-    opcode: u8,
-    number: u32,
-    out: &mut Vec<Instruction>,
-) -> bool
+fn push_numbered(slot: Slot<'_>, opcode: u8, number: u32, out: &mut Vec<Instruction>) -> bool
     requires room { vec_len out.old < vec_capacity out.old }
-    requires place { place < length depths.now }
-    requires low { AreLow depths.now }
-    ensures pushed { MatchOption (of_version version (numbered opcode number)) (result ≡ false)
-        (λ i. (result ≡ fits locals depths.now place (get_or depths.now place 0) i)
-        × (out.new.items ≡ out.old.items ++ i ∷ [])) }
+    requires position { slot.position < length slot.depths.now }
+    requires low { AreLow slot.depths.now }
+    ensures pushed { MatchOption (of_version slot.entry.version (numbered opcode number)) (result ≡ false)
+        (λ i. (result ≡ fits_slot slot.entry i) × (out.new.items ≡ out.old.items ++ i ∷ [])) }
     ensures size { vec_len out.new ≤ vec_len out.old + 1 }
     ensures capacity { vec_capacity out.new ≡ vec_capacity out.old }
 {
     match opcode {
-        2 => {
-            number < 256 && push_fit(locals, depths, place, Instruction::Load(number as u8), out)
-        }
-        3 => {
-            number < 256 && push_fit(locals, depths, place, Instruction::Store(number as u8), out)
-        }
-        4 => match unary_of(number) {
-            Some(instruction) => push_of_version(version, locals, depths, place, instruction, out),
-            None => false,
-        },
-        5 => match binary_operator_of(number) {
-            Some(operator) => {
-                push_fit(locals, depths, place, Instruction::Binary(operator), out)
-            }
-            None => false,
-        },
-        6 => {
-            number < 65536 && push_fit(locals, depths, place, Instruction::Jump(number as u16), out)
-        }
-        7 => {
-            number < 65536
-                && push_fit(
-                    locals,
-                    depths,
-                    place,
-                    Instruction::JumpIfZero(number as u16),
-                    out,
-                )
-        }
-        8 => match call_of(number) {
-            Some(instruction) => push_of_version(version, locals, depths, place, instruction, out),
-            None => false,
-        },
-        10 => {
-            let base = (number % 256) as u8;
-            number < 65536
-                && push_of_version(
-                    version,
-                    locals,
-                    depths,
-                    place,
-                    Instruction::LoadIndexed {
-                        base,
-                        places: (number / 256) as u8,
-                    },
-                    out,
-                )
-        }
-        11 => {
-            let base = (number % 256) as u8;
-            number < 65536
-                && push_of_version(
-                    version,
-                    locals,
-                    depths,
-                    place,
-                    Instruction::StoreIndexed {
-                        base,
-                        places: (number / 256) as u8,
-                    },
-                    out,
-                )
-        }
-        9 => number == 0 && push_fit(locals, depths, place, Instruction::End, out),
+        2 => push_some(slot, load_of(number), out),
+        3 => push_some(slot, store_of(number), out),
+        4 => push_some(slot, unary_of(number), out),
+        5 => push_some(slot, binary_of(number), out),
+        6 => push_some(slot, jump_of(number), out),
+        7 => push_some(slot, jump_if_zero_of(number), out),
+        8 => push_some(slot, call_of(number), out),
+        9 => push_some(slot, end_of(number), out),
+        10 => push_some(slot, indexed_load_of(number), out),
+        11 => push_some(slot, indexed_store_of(number), out),
         _ => false,
     }
 }
 
 /// Appends the instruction of an opcode and an argument, if the version has one: whether it has, and it is fit to stand
-/// at this place of a body. There is room for it.
+/// there. There is room for it.
 #[inline(always)]
 pub fn push_instruction(
-    version: u16,
-    locals: u8,
-    depths: &[u8],
-    place: usize,
+    slot: Slot<'_>,
     opcode: u8,
     argument: i32,
     out: &mut Vec<Instruction>,
 ) -> bool
     requires room { vec_len out.old < vec_capacity out.old }
-    requires place { place < length depths.now }
-    requires low { AreLow depths.now }
-    ensures pushed { MatchOption (instruction_in version opcode argument) (result ≡ false)
-        (λ i. (result ≡ fits locals depths.now place (get_or depths.now place 0) i)
-        × (out.new.items ≡ out.old.items ++ i ∷ [])) }
+    requires position { slot.position < length slot.depths.now }
+    requires low { AreLow slot.depths.now }
+    ensures pushed { MatchOption (instruction_in slot.entry.version opcode argument) (result ≡ false)
+        (λ i. (result ≡ fits_slot slot.entry i) × (out.new.items ≡ out.old.items ++ i ∷ [])) }
     ensures size { vec_len out.new ≤ vec_len out.old + 1 }
     ensures capacity { vec_capacity out.new ≡ vec_capacity out.old }
 {
     if opcode == 1 {
-        return push_fit(locals, depths, place, Instruction::Push(argument), out);
+        return push_fit(slot, Instruction::Push(argument), out);
     }
-    push_numbered(
-        version,
-        locals,
-        depths,
-        place,
-        opcode,
-        argument.cast_unsigned(),
-        out,
-    )
+    push_numbered(slot, opcode, argument.cast_unsigned(), out)
 }

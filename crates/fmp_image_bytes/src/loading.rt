@@ -5,7 +5,7 @@ ghost use Rattle.fmp_base.specs.Systems.{tables_of};
 ghost use Rattle.fmp_instructions.specs.Instructions.{code_tables};
 ghost use Rattle.fmp_image_bytes.specs.Fields.{Gives};
 ghost use Rattle.fmp_image_bytes.specs.Versions as versions;
-ghost use Rattle.fmp_image_bytes.specs.Rows.{context_of};
+ghost use Rattle.fmp_image_bytes.specs.ImageContexts.{rows_context};
 ghost use Rattle.fmp_image_bytes.specs.Images.{◌▹◌, ImageTables, Spells};
 ghost use Rattle.fmp_image_bytes.specs.Images.{image_at, image_tables, later_tables, tables, tables_in};
 ghost use Rattle.fmp_image_bytes.specs.OlderImages.{MeansTheSame};
@@ -17,7 +17,7 @@ use crate::heads::BodyHead;
 use crate::image::Image;
 use crate::keys::TakenKeys;
 use crate::laws::older_images_mean_the_same;
-use crate::rows::read_table;
+use crate::rows::{ImageContext, read_table};
 use fmp_base::{
     CyclicConfig, InterruptConfig, MessageConfig, SharedWordConfig, SpinLockConfig, System,
 };
@@ -36,9 +36,7 @@ struct LaterTables {
 /// Reads the tables from that of messages on, after those whose keys are taken.
 fn read_later_tables<'a>(
     alloc: Global,
-    version: u16,
-    processors: u8,
-    heads: &[BodyHead],
+    context: ImageContext<'_>,
     taken: &mut TakenKeys,
     bytes: &'a [u8],
 ) -> Result<(LaterTables, &'a [u8]), LoadFault>
@@ -48,13 +46,13 @@ fn read_later_tables<'a>(
               ▹ x.0.interrupts.items),
           x.1.now,
         ))
-        result ((later_tables (context_of version processors heads.now) taken.old.keys).read bytes.now) }
+        result ((later_tables (rows_context context.entry) taken.old.keys).read bytes.now) }
 {
-    let (messages, rest) = read_table(alloc, version, processors, heads, taken, bytes)?;
-    let (shared_words, rest) = read_table(alloc, version, processors, heads, taken, rest)?;
-    let (spin_locks, rest) = read_table(alloc, version, processors, heads, taken, rest)?;
-    let (cyclics, rest) = read_table(alloc, version, processors, heads, taken, rest)?;
-    let (interrupts, rest) = read_table(alloc, version, processors, heads, taken, rest)?;
+    let (messages, rest) = read_table(alloc, context, taken, bytes)?;
+    let (shared_words, rest) = read_table(alloc, context, taken, rest)?;
+    let (spin_locks, rest) = read_table(alloc, context, taken, rest)?;
+    let (cyclics, rest) = read_table(alloc, context, taken, rest)?;
+    let (interrupts, rest) = read_table(alloc, context, taken, rest)?;
     let later = LaterTables {
         messages,
         shared_words,
@@ -68,23 +66,21 @@ fn read_later_tables<'a>(
 /// Reads all tables of a system. Its queue limit is that of the version.
 fn read_tables<'a>(
     alloc: Global,
-    version: u16,
-    processors: u8,
-    heads: &[BodyHead],
+    context: ImageContext<'_>,
     bytes: &'a [u8],
 ) -> Result<(System, &'a [u8]), LoadFault>
     ensures read { Gives (λ x. (tables_in (tables_of x.0), x.1.now)) result
-        ((tables (context_of version processors heads.now) []).read bytes.now) }
-    ensures processors { IfOk result (λ x. x.0.processors ≡ processors) }
-    ensures queue_limit { IfOk result (λ x. x.0.queue_limit ≡ versions.queue_limit_of version) }
+        ((tables (rows_context context.entry) []).read bytes.now) }
+    ensures processors { IfOk result (λ x. x.0.processors ≡ context.entry.processors) }
+    ensures queue_limit { IfOk result (λ x. x.0.queue_limit ≡ versions.queue_limit_of context.entry.version) }
 {
     let mut taken = TakenKeys::new(alloc);
-    let (tasks, rest) = read_table(alloc, version, processors, heads, &mut taken, bytes)?;
-    let (semaphores, rest) = read_table(alloc, version, processors, heads, &mut taken, rest)?;
-    let (flags, rest) = read_table(alloc, version, processors, heads, &mut taken, rest)?;
-    let (data_queues, rest) = read_table(alloc, version, processors, heads, &mut taken, rest)?;
-    let (mailboxes, rest) = read_table(alloc, version, processors, heads, &mut taken, rest)?;
-    let (later, rest) = read_later_tables(alloc, version, processors, heads, &mut taken, rest)?;
+    let (tasks, rest) = read_table(alloc, context, &mut taken, bytes)?;
+    let (semaphores, rest) = read_table(alloc, context, &mut taken, rest)?;
+    let (flags, rest) = read_table(alloc, context, &mut taken, rest)?;
+    let (data_queues, rest) = read_table(alloc, context, &mut taken, rest)?;
+    let (mailboxes, rest) = read_table(alloc, context, &mut taken, rest)?;
+    let (later, rest) = read_later_tables(alloc, context, &mut taken, rest)?;
     let LaterTables {
         messages,
         shared_words,
@@ -93,8 +89,8 @@ fn read_tables<'a>(
         interrupts,
     } = later;
     let system = System {
-        processors,
-        queue_limit: queue_limit_of(version),
+        processors: context.processors,
+        queue_limit: queue_limit_of(context.version),
         tasks,
         semaphores,
         flags,
@@ -116,7 +112,12 @@ fn read_image(alloc: Global, bytes: &[u8]) -> Result<(u16, System, Code, Vec<Bod
 {
     let ((version, processors), rest) = read_header(bytes)?;
     let ((heads, bodies), rest) = read_bodies(alloc, version, rest)?;
-    let (system, rest) = read_tables(alloc, version, processors, &heads, rest)?;
+    let context = ImageContext {
+        version,
+        processors,
+        heads: &heads,
+    };
+    let (system, rest) = read_tables(alloc, context, rest)?;
     if !is_end(rest) {
         return Err(LoadFault::Image(ImageFault::Trailing));
     }

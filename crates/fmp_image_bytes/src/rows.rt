@@ -5,6 +5,7 @@ ghost use Rattle.std.specs.List.{flat_map, AllByRecursion};
 ghost use Rattle.fmp_base.specs.Names.{name_text};
 ghost use Rattle.fmp_image_bytes.specs.Fields.{Field, Gives, byte, text};
 ghost use Rattle.fmp_image_bytes.specs.Rows.{RowContext, context_of, bit};
+ghost use Rattle.fmp_image_bytes.specs.ImageContexts.{rows_context};
 ghost use Rattle.fmp_image_bytes.specs.Tables.{rows_at, table};
 ghost use Rattle.fmp_image_bytes.specs.declared.keys.Key as spec_key;
 
@@ -62,21 +63,35 @@ pub trait Row: Copy {
         ensures { OnOk result (out.new.items ≡ out.old.items ++ spelled self.now) };
 }
 
+/// What the rows of an image refer to.
+#[derive(Clone, Copy)]
+pub struct ImageContext<'a> {
+    /// The version of the image.
+    pub version: u16,
+    /// How many processors its system has, 1 to 8.
+    pub processors: u8,
+    /// What is said of each body.
+    pub heads: &'a [BodyHead],
+}
+
 /// Reads this many rows, and enters their keys among those that are taken. The faults are those of a row,
 /// `ImageFault::Table` for a key that is taken, and `LoadFault::Memory` if memory runs out.
 pub fn read_rows<'a, R: Row>(
     alloc: Global,
-    version: u16,
-    processors: u8,
-    heads: &[BodyHead],
+    context: ImageContext<'_>,
     count: u8,
     taken: &mut TakenKeys,
     bytes: &'a [u8],
 ) -> Result<(Vec<R>, &'a [u8]), LoadFault>
     ensures read { Gives (λ x. (x.0.items, x.1.now)) result
-        (rows_at (R.field (context_of version processors heads.now)) R.key_of count taken.old.keys bytes.now) }
+        (rows_at (R.field (rows_context context.entry)) R.key_of count taken.old.keys bytes.now) }
     ensures taken { IfOk result (λ x. taken.new.keys ≡ taken.old.keys ++ map R.key_of x.0.items) }
 {
+    let ImageContext {
+        version,
+        processors,
+        heads,
+    } = context;
     let mut rows = Vec::new(alloc);
     let mut rest = bytes;
     for _ in 0..count {
@@ -96,18 +111,16 @@ pub fn read_rows<'a, R: Row>(
 /// those of `read_rows`, and `ImageFault::Short` if there is no count.
 pub fn read_table<'a, R: Row>(
     alloc: Global,
-    version: u16,
-    processors: u8,
-    heads: &[BodyHead],
+    context: ImageContext<'_>,
     taken: &mut TakenKeys,
     bytes: &'a [u8],
 ) -> Result<(Vec<R>, &'a [u8]), LoadFault>
     ensures read { Gives (λ x. (x.0.items, x.1.now)) result
-        ((table (R.field (context_of version processors heads.now)) R.key_of taken.old.keys).read bytes.now) }
+        ((table (R.field (rows_context context.entry)) R.key_of taken.old.keys).read bytes.now) }
     ensures taken { IfOk result (λ x. taken.new.keys ≡ taken.old.keys ++ map R.key_of x.0.items) }
 {
     let (count, rest) = byte_at(bytes)?;
-    read_rows(alloc, version, processors, heads, count, taken, rest)
+    read_rows(alloc, context, count, taken, rest)
 }
 
 /// Puts a table of at most 255 rows after the bytes. `AllocError` if memory runs out.

@@ -17,13 +17,14 @@ returns-clause-pushed c =
     c.read_i32-argument.ensures ∙ ap (λ (xs : List ℕ). cast_signed w32 (little_number 4 xs)) (take_rest bytes 1) in
     let number = cast_signed w32 (cast_unsigned w32 c.read_i32-argument.result) in
     let same : number ≡ c.read_i32-argument.result = to_z-of_z w32 c.read_i32-argument.result (search rules) in
-    let o = instruction_in c.args.version (get_or bytes 0 0) number in
-    let is : step_at c.args.version bytes ≡ (named o >>= λ i. Ok ((i, get_or bytes 5 0), drop 6 bytes)) =
-    step_of_six c.args.version bytes c.requires.bytes
-    ∙ ap (λ (k : ℤ). named (instruction_in c.args.version (get_or bytes 0 0) k) >>= λ i. Ok
+    let o = instruction_in c.args.slot.version (get_or bytes 0 0) number in
+    let is : step_at c.args.slot.version bytes ≡ (named o >>= λ i. Ok ((i, get_or bytes 5 0), drop 6 bytes)) =
+    step_of_six c.args.slot.version bytes c.requires.bytes
+    ∙ ap (λ (k : ℤ). named (instruction_in c.args.slot.version (get_or bytes 0 0) k) >>= λ i. Ok
     ((i, get_or bytes 5 0), drop 6 bytes))
     (sym (same ∙ value)) in
-    rw is (six_pushed (fits c.args.locals c.args.depths.now c.args.place) o (get_or c.args.depths.now c.args.place 0)
+    rw is (six_pushed (fits c.args.slot.locals c.args.slot.depths.now c.args.slot.position) o
+    (get_or c.args.slot.depths.now c.args.slot.position 0)
     (get_or bytes 5 0) (drop 6 bytes)
     c.push_instruction.result _ _ c.push_instruction.ensures.pushed c.requires.depth)
 
@@ -34,12 +35,13 @@ returns-clause-refused c =
     c.read_i32-argument.ensures ∙ ap (λ (xs : List ℕ). cast_signed w32 (little_number 4 xs)) (take_rest bytes 1) in
     let number = cast_signed w32 (cast_unsigned w32 c.read_i32-argument.result) in
     let same : number ≡ c.read_i32-argument.result = to_z-of_z w32 c.read_i32-argument.result (search rules) in
-    let o = instruction_in c.args.version (get_or bytes 0 0) number in
-    let is : step_at c.args.version bytes ≡ (named o >>= λ i. Ok ((i, get_or bytes 5 0), drop 6 bytes)) =
-    step_of_six c.args.version bytes c.requires.bytes
-    ∙ ap (λ (k : ℤ). named (instruction_in c.args.version (get_or bytes 0 0) k) >>= λ i. Ok
+    let o = instruction_in c.args.slot.version (get_or bytes 0 0) number in
+    let is : step_at c.args.slot.version bytes ≡ (named o >>= λ i. Ok ((i, get_or bytes 5 0), drop 6 bytes)) =
+    step_of_six c.args.slot.version bytes c.requires.bytes
+    ∙ ap (λ (k : ℤ). named (instruction_in c.args.slot.version (get_or bytes 0 0) k) >>= λ i. Ok
     ((i, get_or bytes 5 0), drop 6 bytes))
     (sym (same ∙ value)) in
-    rw is (six_refused (fits c.args.locals c.args.depths.now c.args.place) o (get_or c.args.depths.now c.args.place 0)
+    rw is (six_refused (fits c.args.slot.locals c.args.slot.depths.now c.args.slot.position) o
+    (get_or c.args.slot.depths.now c.args.slot.position 0)
     (get_or bytes 5 0) (drop 6 bytes)
     c.push_instruction.result _ _ c.push_instruction.ensures.pushed)

@@ -2,7 +2,7 @@ use Rattle.std.proofs.Common.{◌≡◌, ◌++◌, ◌∷◌, [], false, true, m
 use Rattle.std.proofs.lemmas.List.{map_push}
 use Rattle.std.proofs.lemmas.Result.{err_from_is_err_and}
 use Rattle.fmp_image_bytes.specs.Keys.{is_taken}
-use Rattle.fmp_image_bytes.specs.Rows.{context_of}
+use Rattle.fmp_image_bytes.specs.ImageContexts.{rows_context}
 use Rattle.fmp_image_bytes.specs.Tables.{rows_at}
 use Rattle.fmp_image_bytes.proofs.RowLoops.{goes_on, ends, stands, is_done}
 use Rattle.fmp_image_bytes.proofs.rows.read_rows.Goals as goal
@@ -10,14 +10,14 @@ use Rattle.fmp_image_bytes.proofs.rows.read_rows.Goals as goal
 pub returns-in_err-row-clause-read : goal.returns-in_err-row-clause-read
 returns-in_err-row-clause-read g c =
     let p = err_from_is_err_and c.from_residual.result c.from_residual.ensures.1 in
-    let row = g.R.Row.field (context_of c.args.version c.args.processors c.args.heads.now) in
+    let row = g.R.Row.field (rows_context c.args.context) in
     rw (p.1, p.2) (ends row g.R.Row.key_of c.loop.rows.items c.args.count c.loop.counter c.loop.taken.keys
     c.loop.rest.now (rows_at row g.R.Row.key_of c.args.count c.args.taken.now.keys c.args.bytes.now)
     c.in_err-row.field-0.0 c.loop-test.true c.in_err-row.ensures c.loop.invariant.so_far)
 
 pub returns-then-is_taken-clause-read : goal.returns-then-is_taken-clause-read
 returns-then-is_taken-clause-read g c =
-    let row = g.R.Row.field (context_of c.args.version c.args.processors c.args.heads.now) in
+    let row = g.R.Row.field (rows_context c.args.context) in
     let there : is_taken (g.R.Row.key_of c.in_ok-row.row) c.loop.taken.keys ≡ true = search rules in
     stands row g.R.Row.key_of c.loop.rows.items c.args.count c.loop.counter c.loop.taken.keys c.loop.rest.now
     (rows_at row g.R.Row.key_of c.args.count c.args.taken.now.keys c.args.bytes.now) c.in_ok-row.row
@@ -25,7 +25,7 @@ returns-then-is_taken-clause-read g c =
 
 pub loop-preserved : goal.loop-preserved
 loop-preserved g c =
-    let row = g.R.Row.field (context_of c.args.version c.args.processors c.args.heads.now) in
+    let row = g.R.Row.field (rows_context c.args.context) in
     let key_of = g.R.Row.key_of in
     let a = c.in_ok-row.row in
     let free : is_taken (key_of a) c.loop.taken.keys ≡ false = search rules in
@@ -43,7 +43,7 @@ loop-preserved g c =
 
 pub returns-clause-read : goal.returns-clause-read
 returns-clause-read g c =
-    let row = g.R.Row.field (context_of c.args.version c.args.processors c.args.heads.now) in
+    let row = g.R.Row.field (rows_context c.args.context) in
     is_done row g.R.Row.key_of c.loop.rows.items c.args.count c.loop.counter c.loop.taken.keys c.loop.rest.now
     (rows_at row g.R.Row.key_of c.args.count c.args.taken.now.keys c.args.bytes.now) c.loop-test.false
     c.loop.invariant.so_far
