@@ -25,6 +25,17 @@ const CAPACITY_MAX: u32 = 1_048_576;
 /// The most seats that a board may have.
 const SEATS_MAX: u8 = 64;
 
+/// What a board has room for.
+#[derive(Clone, Copy)]
+pub(crate) struct Limits {
+    /// How many instructions a stretch may take, 1 to 2^48.
+    pub bound: u64,
+    /// How many events the journal may have, 1 to 2^20.
+    pub capacity: u32,
+    /// How many seats there are, 1 to 64.
+    pub seats: u8,
+}
+
 /// A board that is not yet open: the kernel of its image after setup, and a row in which nothing is written.
 #[derive(Drop)]
 pub struct Blank<'a> {
@@ -33,9 +44,7 @@ pub struct Blank<'a> {
     row: Row,
     scribe: Scribe,
     room: Vec<Event>,
-    bound: u64,
-    capacity: u32,
-    seats: u8,
+    limits: Limits,
 }
 
 impl<'a> Model for Blank<'a> {
@@ -45,11 +54,17 @@ impl<'a> Model for Blank<'a> {
 
     ghost Value = { BlankState };
 
-    ghost view = { λ b. record { image = b.image.now; bound = b.bound; row = b.row; journal = b.scribe.journal } };
+    ghost view = { λ b. record {
+      image = b.image.now;
+      bound = b.limits.bound;
+      row = b.row;
+      journal = b.scribe.journal;
+    } };
 
-    ghost invariant = { λ b. InRange b.bound b.row.capacity b.row.seats
-        × IsReplay b.image.now b.bound b.row.capacity b.row.seats b.kernel [] × (b.scribe ≡ new_scribe b.row)
-        × IsRoom b.row b.capacity b.seats × (b.room.items ≡ []) × (b.row.capacity ≤ vec_capacity b.room) };
+    ghost invariant = { λ b. InRange b.limits.bound b.row.capacity b.row.seats
+        × IsReplay b.image.now b.limits.bound b.row.capacity b.row.seats b.kernel [] × (b.scribe ≡ new_scribe b.row)
+        × IsRoom b.row b.limits.capacity b.limits.seats
+        × (b.room.items ≡ []) × (b.row.capacity ≤ vec_capacity b.room) };
 }
 
 impl<'a> Blank<'a> {
@@ -65,26 +80,22 @@ impl<'a> Blank<'a> {
         row: Row,
         scribe: Scribe,
         room: Vec<Event>,
-        bound: u64,
-        limits: (u32, u8),
+        limits: Limits,
     ) -> Blank<'a>
-        requires range { InRange bound row.capacity row.seats }
-        requires kernel { IsReplay image.now bound row.capacity row.seats kernel [] }
+        requires range { InRange limits.bound row.capacity row.seats }
+        requires kernel { IsReplay image.now limits.bound row.capacity row.seats kernel [] }
         requires scribe { scribe ≡ new_scribe row }
-        requires limits { IsRoom row limits.0 limits.1 }
+        requires limits { IsRoom row limits.capacity limits.seats }
         requires room { (room.items ≡ []) × (row.capacity ≤ vec_capacity room) }
-        ensures { result ≡ blank image.now bound row }
+        ensures { result ≡ blank image.now limits.bound row }
     {
-        let (capacity, seats) = limits;
         Blank {
             image,
             kernel,
             row,
             scribe,
             room,
-            bound,
-            capacity,
-            seats,
+            limits,
         }
     }
 
@@ -106,10 +117,12 @@ impl<'a> Blank<'a> {
         let room = Vec::with_capacity(alloc, k as usize)?;
         let EmptyRow { row, scribe, seats } = EmptyRow::new(alloc, k, m)?;
         let kernel = kernel_of(alloc, image, n)?;
-        Ok((
-            Blank::of(image, kernel, row, scribe, room, n, (k, m)),
-            seats,
-        ))
+        let limits = Limits {
+            bound: n,
+            capacity: k,
+            seats: m,
+        };
+        Ok((Blank::of(image, kernel, row, scribe, room, limits), seats))
     }
 
     /// A board of an image that is not yet open, and its seats, numbered from 0: stretches of bodies take at most n
@@ -155,11 +168,9 @@ impl<'a> Blank<'a> {
             row,
             scribe,
             room,
-            bound,
-            capacity,
-            seats,
+            limits,
         } = self;
-        let book = Book::new(image, kernel, scribe, bound, capacity, seats);
-        Board::new(image, row, room, bound, book)
+        let book = Book::new(image, kernel, scribe, limits);
+        Board::new(image, row, room, limits.bound, book)
     }
 }

@@ -3,6 +3,7 @@ ghost use Rattle.std.specs.Prelude.{◌≡◌, ◌<◌, ◌≤◌, [], length, v
 ghost use Rattle.fmp_board.specs.Boards.{IsReplay, IsRoom};
 ghost use Rattle.fmp_journal.specs.Seats.{events};
 
+use crate::blank::Limits;
 use crate::closed::Closed;
 use crate::fault::BoardFault;
 use crate::site::Site;
@@ -21,9 +22,7 @@ pub struct Book<'a, S: Site> {
     pub(crate) image: &'a Image,
     pub(crate) kernel: Kernel<Vm<'a>>,
     pub(crate) scribe: Scribe,
-    pub(crate) bound: u64,
-    pub(crate) capacity: u32,
-    pub(crate) seats: u8,
+    pub(crate) limits: Limits,
     pub(crate) site: PhantomData<S>,
 }
 
@@ -36,9 +35,9 @@ impl<'a, S: Site> Model for Book<'a, S> {
     ghost view = { λ b. record { journal = b.scribe.journal; marks = b.scribe.marks } };
 
     ghost invariant = { λ b. (b.image.now ≡ S.image) × (b.scribe.row ≡ S.row_id)
-        × IsRoom S.row_id b.capacity b.seats
+        × IsRoom S.row_id b.limits.capacity b.limits.seats
         × IsReplay S.image S.bound S.row_id.capacity S.row_id.seats b.kernel b.scribe.journal
-        × (b.bound ≡ S.bound) };
+        × (b.limits.bound ≡ S.bound) };
 }
 
 impl<'a, S: Site> Book<'a, S> {
@@ -58,12 +57,10 @@ impl<'a, S: Site> Book<'a, S> {
         image: &'a Image,
         kernel: Kernel<Vm<'a>>,
         scribe: Scribe,
-        bound: u64,
-        capacity: u32,
-        seats: u8,
+        limits: Limits,
     ) -> Book<'a, S>
-        requires site { (image.now ≡ S.image) × (scribe.row ≡ S.row_id) × (bound ≡ S.bound) }
-        requires room { IsRoom S.row_id capacity seats }
+        requires site { (image.now ≡ S.image) × (scribe.row ≡ S.row_id) × (limits.bound ≡ S.bound) }
+        requires room { IsRoom S.row_id limits.capacity limits.seats }
         requires replay { IsReplay S.image S.bound S.row_id.capacity S.row_id.seats kernel scribe.journal }
         ensures { result ≡ record { journal = scribe.journal; marks = scribe.marks } }
     {
@@ -71,9 +68,7 @@ impl<'a, S: Site> Book<'a, S> {
             image,
             kernel,
             scribe,
-            bound,
-            capacity,
-            seats,
+            limits,
             site: PhantomData,
         }
     }
@@ -89,14 +84,14 @@ impl<'a, S: Site> Book<'a, S> {
     pub fn capacity(&self) -> u32
         ensures { result ≡ S.row_id.capacity }
     {
-        self.capacity
+        self.limits.capacity
     }
 
     /// How many seats the board has.
     pub fn seats(&self) -> u8
         ensures { result ≡ S.row_id.seats }
     {
-        self.seats
+        self.limits.seats
     }
 
     /// The kernel: the replay of the journal.
@@ -186,9 +181,7 @@ impl<'a, S: Site> Book<'a, S> {
             image: _,
             kernel,
             mut scribe,
-            bound: _,
-            capacity: _,
-            seats: _,
+            limits: _,
             site: _,
         } = self;
         let events = scribe.events(room);

@@ -29,7 +29,7 @@ impl<'a, S: Site> Book<'a, S> {
             return None;
         }
         let actor = self.kernel.actor(p)?;
-        Some(Ticket::new(self.image, self.bound, p, actor))
+        Some(Ticket::new(self.image, self.limits.bound, p, actor))
     }
 
     /// The same ticket in a workspace, if there is one. Else the workspace is as it was.
@@ -46,7 +46,7 @@ impl<'a, S: Site> Book<'a, S> {
         }
         match &self.kernel.actor(p) {
             Some(actor) => {
-                workspace.draw(self.image, self.bound, p, actor);
+                workspace.draw(self.image, self.limits.bound, p, actor);
                 true
             }
             None => false,
