@@ -31,7 +31,7 @@ use Rattle.fmp_recording.specs.Recordings.{in_front_of, is_restart, line_meaning
 use Rattle.fmp_recording.specs.Recordings.{number_up_to, positive, negative, recorded_at, recorded_from, recorded_in}
 use Rattle.fmp_recording.specs.Recordings.{recorded_lines_text, recorded_of, recorded_text, recording_of}
 use Rattle.fmp_recording.specs.Recordings.{recording_text, restart_text, said_before, signed_number, some_time}
-use Rattle.fmp_recording.specs.Recordings.{time_after, time_number, time_or_none, time_place, time_text, timed_text}
+use Rattle.fmp_recording.specs.Recordings.{time_after, time_number, time_or_none, time_position, time_text, timed_text}
 use Rattle.fmp_recording.specs.Recordings.{times_of, with_time}
 use Rattle.fmp_recording.specs.RecordingLaws.{IsRecorded, IsRecordedLine, IsTime, IsWord, IsWritable}
 use Rattle.fmp_recording.specs.RecordingLaws.{PrintedLinesReadBack, PrintedRecordingsReadBack, TimedRecordingsReadBack}
@@ -70,7 +70,7 @@ line_append : (xs ys : List ℕ) → IsLine xs → IsLine ys → IsLine (xs ++ y
 line_append [] ys h k = k
 line_append (x ∷ xs) ys h k = (h.0, line_append xs ys h.1 k)
 
--- the place of the first `@`
+-- the position of the first `@`
 sign_after : (w rest : List ℕ) → Clear w
     → position_or_len (λ b. nat_eq b 64) (w ++ rest) ≡ length w + position_or_len (λ b. nat_eq b 64) rest
 sign_after [] rest h = omega arith
@@ -85,7 +85,7 @@ and_none [] = refl
 and_none (x ∷ xs) = ap (λ (ys : List ℕ). x ∷ ys) (and_none xs)
 
 -- a line without an `@` has no time
-untimed : (w : List ℕ) → Clear w → time_place w ≡ None
+untimed : (w : List ℕ) → Clear w → time_position w ≡ None
 untimed w h =
     let n : position_or_len (λ b. nat_eq b 64) w ≡ length w =
     ap (λ (x : List ℕ). position_or_len (λ b. nat_eq b 64) x) (sym (and_none w)) ∙ sign_after w [] h ∙ omega arith in
@@ -94,7 +94,7 @@ untimed w h =
     ∙ ap (λ (t : Bool). after_blank w (cond t (Some (length w)) None)) out
 
 -- a time stands after such a line
-timed : (w rest : List ℕ) → Clear w → time_place (w ++ 32 ∷ 64 ∷ rest) ≡ Some (length w)
+timed : (w rest : List ℕ) → Clear w → time_position (w ++ 32 ∷ 64 ∷ rest) ≡ Some (length w)
 timed w rest h =
     let text = w ++ 32 ∷ 64 ∷ rest in
     let n : position_or_len (λ b. nat_eq b 64) text ≡ suc (length w) = sign_after w (32 ∷ 64 ∷ rest) h ∙ omega arith in
@@ -132,7 +132,7 @@ digits_plain (d ∷ ds) h =
     let p = digit_plain d (all_ascii_digits ds) h in
     ap (λ (t : Bool). t && all_plain ds) p.0 ∙ digits_plain ds p.2
 
--- the place of the first blank
+-- the position of the first blank
 blank_after : (w rest : List ℕ) → Plain w
     → position_or_len (λ b. nat_eq b 32) (w ++ rest) ≡ length w + position_or_len (λ b. nat_eq b 32) rest
 blank_after [] rest h = omega arith
@@ -358,9 +358,10 @@ pub printed_lines_read_back : PrintedLinesReadBack
 printed_lines_read_back processors rs small h few = all_again processors 1 rs small h (omega (arith, few))
 
 -- a line and its time are read as they are written
-said_again : (w : List ℕ) (t : Option ℕ) → Clear w → said_before (time_place (w ++ time_text t)) (w ++ time_text t) ≡ w
+said_again : (w : List ℕ) (t : Option ℕ) → Clear w
+    → said_before (time_position (w ++ time_text t)) (w ++ time_text t) ≡ w
 said_again w None h =
-    ap (λ (x : List ℕ). said_before (time_place x) x) (and_none w)
+    ap (λ (x : List ℕ). said_before (time_position x) x) (and_none w)
     ∙ ap (λ (o : Option ℕ). said_before o w) (untimed w h)
 said_again w (Some n) h =
     let text = w ++ 32 ∷ 64 ∷ decimal n in
@@ -371,9 +372,9 @@ digits_again zero h = ap (λ (ds : List ℕ). numeral_value ds) (decimal_digit 0
 digits_again (suc n) h = numeral_value-decimal (suc n) (omega arith) (omega (arith, h))
 
 time_again : (w : List ℕ) (t : Option ℕ) → Clear w → IsTime t
-    → time_after (time_place (w ++ time_text t)) (w ++ time_text t) ≡ Ok t
+    → time_after (time_position (w ++ time_text t)) (w ++ time_text t) ≡ Ok t
 time_again w None h k =
-    ap (λ (x : List ℕ). time_after (time_place x) x) (and_none w)
+    ap (λ (x : List ℕ). time_after (time_position x) x) (and_none w)
     ∙ ap (λ (o : Option ℕ). time_after o w) (untimed w h)
 time_again w (Some n) h k =
     let text = w ++ 32 ∷ 64 ∷ decimal n in
@@ -390,7 +391,8 @@ timed_line processors n g t small h k few =
     let line = w ++ time_text t in
     let clear = given_clear processors g small h in
     came_numbered processors n line g (no_restart g (time_text t))
-    (ap (λ (x : List ℕ). with_time (given_in processors x) (time_after (time_place line) line)) (said_again w t clear)
+    (ap (λ (x : List ℕ). with_time (given_in processors x) (time_after (time_position line) line))
+    (said_again w t clear)
     ∙ ap (λ (r : Result (Option ℕ) RecordingFlaw). with_time (given_in processors w) r) (time_again w t clear k)
     ∙ ap (λ (r : Result Given RecordingFlaw). with_time r (Ok t)) (given_again processors g small h)) few
 

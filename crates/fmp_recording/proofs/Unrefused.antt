@@ -24,7 +24,7 @@ use Rattle.fmp_recording.specs.declared.faults.RecordingFault.TheVariants as rec
 use Rattle.fmp_recording.specs.declared.recorded.RecordedLine.{RecordedLine}
 use Rattle.fmp_recording.specs.declared.recorded.RecordedLine.TheVariants as recorded
 use Rattle.fmp_recording.specs.Recordings.{act_in, came_by, cut, fault_at, given_act, given_int, given_in, in_front}
-use Rattle.fmp_recording.specs.Recordings.{int_in, is_restart, line_meaning, said_before, time_after, time_place}
+use Rattle.fmp_recording.specs.Recordings.{int_in, is_restart, line_meaning, said_before, time_after, time_position}
 use Rattle.fmp_recording.specs.Recordings.{with_time, number_of, number_up_to, recorded_at, recorded_from, recorded_in}
 use Rattle.fmp_recording.specs.Recordings.{recorded_of, run_in, tick_in}
 use Rattle.fmp_recording.specs.Replaying.{first_refusal, new_kernel, or_else}
@@ -97,8 +97,8 @@ without_its_time (Ok h) (Ok t) g e = e
 
 line_fits : (processors : ℕ) (line : List ℕ) (g : Given) → line_meaning processors line ≡ Ok g → Fits processors g
 line_fits processors line g e =
-    let said = said_before (time_place line) line in
-    text_fits processors said g (without_its_time (given_in processors said) (time_after (time_place line) line) g e)
+    let said = said_before (time_position line) line in
+    text_fits processors said g (without_its_time (given_in processors said) (time_after (time_position line) line) g e)
 
 abbrev LineFits : (processors : ℕ) → RecordedLine → Type 0
 LineFits processors (recorded.Came g) = Fits processors g

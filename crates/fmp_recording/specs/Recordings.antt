@@ -194,8 +194,8 @@ after_blank line None = None
 after_blank line (Some k) = if nat_le 1 k && nat_eq (get_or line (k - 1) 0) 32 then Some (k - 1) else None
 
 -- where ` @` stands in a line, if its first `@` is after a blank
-abbrev pub time_place : List ℕ → Option ℕ
-time_place line = after_blank line (position (λ b. nat_eq b 64) line)
+abbrev pub time_position : List ℕ → Option ℕ
+time_position line = after_blank line (position (λ b. nat_eq b 64) line)
 
 -- a time, in microseconds: from 0 to 2^53
 abbrev pub time_number : Option ℕ → Result ℕ RecordingFlaw
@@ -207,12 +207,12 @@ some_time (Err f) = Err f
 some_time (Ok n) = Ok (Some n)
 
 -- a line without its time
-abbrev pub said_before : (place : Option ℕ) → List ℕ → List ℕ
+abbrev pub said_before : (position : Option ℕ) → List ℕ → List ℕ
 said_before None line = line
 said_before (Some k) line = take k line
 
 -- its time, if it has one
-abbrev pub time_after : (place : Option ℕ) → List ℕ → Result (Option ℕ) RecordingFlaw
+abbrev pub time_after : (position : Option ℕ) → List ℕ → Result (Option ℕ) RecordingFlaw
 time_after None line = Ok None
 time_after (Some k) line = some_time (time_number (numeral_value (drop (k + 2) line)))
 
@@ -225,7 +225,7 @@ with_time (Ok g) (Ok time) = Ok g
 -- microseconds since the start. Of two flaws it has that of what comes.
 abbrev pub line_meaning : (processors : ℕ) → List ℕ → Result Given RecordingFlaw
 line_meaning processors line =
-    with_time (given_in processors (said_before (time_place line) line)) (time_after (time_place line) line)
+    with_time (given_in processors (said_before (time_position line) line)) (time_after (time_position line) line)
 
 abbrev pub is_restart : List ℕ → Bool
 is_restart line = bytes_eq line restart_text
@@ -246,7 +246,7 @@ time_or_none (Ok time) = time
 
 -- when what a line says came, if the line says so
 abbrev pub line_time : List ℕ → Option ℕ
-line_time line = time_or_none (time_after (time_place line) line)
+line_time line = time_or_none (time_after (time_position line) line)
 
 -- the times of the lines that say what comes
 abbrev pub line_times : List (List ℕ) → List (Option ℕ)

@@ -21,7 +21,7 @@ pub fn first_word(text: &[u8]) -> (&[u8], &[u8])
     ensures rest { (cut text.now).rest ≡ result.1.now }
 {
     match blank_in(text) {
-        Some(place) => (&text[..place], &text[place..]),
+        Some(position) => (&text[..position], &text[position..]),
         None => (text, &[]),
     }
 }
@@ -33,7 +33,7 @@ pub fn first_line(text: &[u8]) -> (&[u8], &[u8])
     ensures shorter { length result.1.now < length text.now }
 {
     match line_feed_in(text) {
-        Some(place) => (&text[..place], &text[place + 1..]),
+        Some(position) => (&text[..position], &text[position + 1..]),
         None => (text, &[]),
     }
 }

@@ -1,6 +1,6 @@
 //! The time at the end of a line.
 ghost use Rattle.std.specs.Prelude.{◌≡◌, ◌+◌, ◌≤◌, IfSome, length, nat_eq, position};
-ghost use Rattle.fmp_recording.specs.Recordings.{line_time, said_before, time_after, time_place as spec_place};
+ghost use Rattle.fmp_recording.specs.Recordings.{line_time, said_before, time_after, time_position as spec_position};
 
 use crate::faults::RecordingFlaw;
 use crate::numbers::time_in;
@@ -12,14 +12,14 @@ fn at_sign_in(text: &[u8]) -> Option<usize>
 }
 
 /// Where ` @` stands in a line, if its first `@` is after a blank.
-pub fn time_place(line: &[u8]) -> Option<usize>
-    ensures place { result ≡ spec_place line.now }
-    ensures inside { IfSome result (λ place. place + 2 ≤ length line.now) }
+pub fn time_position(line: &[u8]) -> Option<usize>
+    ensures position { result ≡ spec_position line.now }
+    ensures inside { IfSome result (λ position. position + 2 ≤ length line.now) }
 {
     match at_sign_in(line) {
-        Some(place) => {
-            if place >= 1 && line[place - 1] == b' ' {
-                Some(place - 1)
+        Some(position) => {
+            if position >= 1 && line[position - 1] == b' ' {
+                Some(position - 1)
             } else {
                 None
             }
@@ -30,20 +30,20 @@ pub fn time_place(line: &[u8]) -> Option<usize>
 
 /// A line without its time.
 pub fn without_time(line: &[u8]) -> &[u8]
-    ensures { result.now ≡ said_before (spec_place line.now) line.now }
+    ensures { result.now ≡ said_before (spec_position line.now) line.now }
 {
-    match time_place(line) {
-        Some(place) => &line[..place],
+    match time_position(line) {
+        Some(position) => &line[..position],
         None => line,
     }
 }
 
 /// The time of a line, if it has one.
 pub fn time_of(line: &[u8]) -> Result<Option<u64>, RecordingFlaw>
-    ensures { result ≡ time_after (spec_place line.now) line.now }
+    ensures { result ≡ time_after (spec_position line.now) line.now }
 {
-    match time_place(line) {
-        Some(place) => match time_in(&line[place + 2..]) {
+    match time_position(line) {
+        Some(position) => match time_in(&line[position + 2..]) {
             Ok(time) => Ok(Some(time)),
             Err(flaw) => Err(flaw),
         },

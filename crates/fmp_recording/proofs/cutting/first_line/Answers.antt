@@ -6,7 +6,7 @@ use Rattle.fmp_recording.proofs.cutting.first_line.Goals as goal
 pub returns-in-Some-clause-lines : goal.returns-in-Some-clause-lines
 returns-in-Some-clause-lines c =
     let text = c.args.text.now in
-    let place = c.in-Some.place in
+    let place = c.in-Some.position in
     lines_of-first text place (sym c.in-Some.ensures)
     ∙ ap (λ rest. take place text ∷ lines_of rest) (sym (rest_whole text (place + 1)))
 
