@@ -4,7 +4,7 @@ ghost use Rattle.fmp_board.specs.Boards.{IsAt, blank as blank_of};
 
 use crate::asking::SeatPlan;
 use crate::exit::StressExit;
-use crate::place::{SeatAnswers, SeatCalls, SeatRecord};
+use crate::seat_calls::{SeatAnswers, SeatCalls, SeatRecord};
 use crate::threads::{Party, SeatWork, Team, Times, run};
 use fmp_base::Event;
 use fmp_files::Failure;
@@ -49,30 +49,30 @@ fn last_of<S: Site>(alloc: Global, seats: &mut Vec<Seat>) -> SeatCalls<S>
 fn push_team<S: Site>(
     alloc: Global,
     teams: &mut Vec<Team<S>>,
-    place: SeatCalls<S>,
+    seat: SeatCalls<S>,
     caller: Option<usize>,
 ) {
-    let mut places = Vec::new(alloc);
-    let _ = places.push(place);
+    let mut seats = Vec::new(alloc);
+    let _ = seats.push(seat);
     let _ = teams.push(Team {
-        places,
+        seats,
         records: Vec::new(alloc),
         caller,
     });
 }
 
 /// Gives a seat to its team: the first ones follow, each by itself, and the others call, a fixed number in a team.
-fn seat_in<S: Site>(alloc: Global, teams: &mut Vec<Team<S>>, place: SeatCalls<S>, plan: &SeatPlan) {
-    let number = place.number();
+fn seat_in<S: Site>(alloc: Global, teams: &mut Vec<Team<S>>, seat: SeatCalls<S>, plan: &SeatPlan) {
+    let number = seat.number();
     if number < plan.followers {
-        push_team(alloc, teams, place, None);
+        push_team(alloc, teams, seat, None);
         return;
     }
     let caller = usize::from(number.saturating_sub(plan.followers));
     if caller % plan.share.max(1) == 0 {
-        push_team(alloc, teams, place, Some(caller));
+        push_team(alloc, teams, seat, Some(caller));
     } else if let Some(team) = teams.last_mut() {
-        let _ = team.places.push(place);
+        let _ = team.seats.push(seat);
     }
 }
 

@@ -10,8 +10,8 @@ mod asking;
 mod exit;
 mod form;
 mod hosting;
-mod place;
 mod running;
+mod seat_calls;
 mod threads;
 mod turns;
 

@@ -2,7 +2,7 @@
 use crate::asking::{Asked, asked_of};
 use crate::exit::StressExit;
 use crate::hosting::{HostedBoard, host};
-use crate::place::SeatRecord;
+use crate::seat_calls::SeatRecord;
 use fmp_base::Event;
 use fmp_files::{Failure, Outside, end, print, read_file, refuse, write_file};
 use fmp_image_bytes::{Image, load};

@@ -1,6 +1,6 @@
 //! The threads that share a board.
 use crate::asking::SeatPlan;
-use crate::place::{SeatCalls, SeatRecord};
+use crate::seat_calls::{SeatCalls, SeatRecord};
 use crate::turns::{call, call_alone};
 use fmp_hostrun::{Board, Site};
 use std::alloc::AllocError;
@@ -13,7 +13,7 @@ use std::time::Clock;
 /// Seats that share a thread.
 #[derive(Drop)]
 pub struct Team<S: Site> {
-    pub places: Vec<SeatCalls<S>>,
+    pub seats: Vec<SeatCalls<S>>,
     /// What those did that are done.
     pub records: Vec<SeatRecord>,
     /// The place of the first one among all that call, or none if they follow.
@@ -71,18 +71,18 @@ impl<S: Site> Team<S> {
         calling: &AtomicU64,
     ) -> Vec<SeatRecord> {
         let Team {
-            mut places,
+            mut seats,
             mut records,
             caller,
         } = self;
         if let Some(first) = caller {
-            call(rt, board, plan, first, &mut places);
+            call(rt, board, plan, first, &mut seats);
             calling.fetch_sub(1, Ordering::SeqCst);
         }
-        for place in places {
+        for seat in seats {
             let record = match caller {
-                Some(_) => Ok(place.follow(board, calling)),
-                None => place.print(board, calling),
+                Some(_) => Ok(seat.follow(board, calling)),
+                None => seat.print(board, calling),
             };
             if let Ok(record) = record {
                 let _ = records.push(record);

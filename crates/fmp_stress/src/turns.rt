@@ -1,6 +1,6 @@
 //! What seats do in their turns.
 use crate::asking::SeatPlan;
-use crate::place::SeatCalls;
+use crate::seat_calls::SeatCalls;
 use fmp_base::Event;
 use fmp_hostrun::{Board, Site};
 use rand_core::SeedableRng;
@@ -79,34 +79,34 @@ impl<'a, 'b, S: Site> Draws<'a, 'b, S> {
 }
 
 /// One turn of a seat.
-fn take_turn<S: Site, R: Wait>(rt: &R, draws: &mut Draws<'_, '_, S>, place: &mut SeatCalls<S>) {
-    match draws.deed(place.number()) {
-        SeatDeed::Run(p) => place.run(rt, draws.board, p),
-        SeatDeed::RunLate(p, event) => place.run_late(rt, draws.board, p, event),
-        SeatDeed::Feed(event) => place.feed(rt, draws.board, event),
+fn take_turn<S: Site, R: Wait>(rt: &R, draws: &mut Draws<'_, '_, S>, seat: &mut SeatCalls<S>) {
+    match draws.deed(seat.number()) {
+        SeatDeed::Run(p) => seat.run(rt, draws.board, p),
+        SeatDeed::RunLate(p, event) => seat.run_late(rt, draws.board, p, event),
+        SeatDeed::Feed(event) => seat.feed(rt, draws.board, event),
         SeatDeed::Read => {
-            place.read(draws.board);
+            seat.read(draws.board);
         }
     }
 }
 
 /// One turn of each seat.
-fn take_turns<S: Site, R: Wait>(rt: &R, draws: &mut Draws<'_, '_, S>, places: &mut [SeatCalls<S>]) {
-    for place in places {
-        take_turn(rt, draws, place);
+fn take_turns<S: Site, R: Wait>(rt: &R, draws: &mut Draws<'_, '_, S>, seats: &mut [SeatCalls<S>]) {
+    for seat in seats {
+        take_turn(rt, draws, seat);
     }
 }
 
 /// The first two seats meet.
-fn meet<S: Site, R: Wait>(rt: &R, board: &Board<'_, S>, places: &mut [SeatCalls<S>]) {
-    if let [one, other, ..] = places {
+fn meet<S: Site, R: Wait>(rt: &R, board: &Board<'_, S>, seats: &mut [SeatCalls<S>]) {
+    if let [one, other, ..] = seats {
         one.meet(rt, board, other);
     }
 }
 
 /// The first seat feeds a tick.
-fn tick<S: Site, R: Wait>(rt: &R, board: &Board<'_, S>, places: &mut [SeatCalls<S>]) {
-    if let [one, ..] = places {
+fn tick<S: Site, R: Wait>(rt: &R, board: &Board<'_, S>, seats: &mut [SeatCalls<S>]) {
+    if let [one, ..] = seats {
         one.feed(rt, board, Event::Tick);
     }
 }
@@ -117,18 +117,18 @@ pub fn call<S: Site, R: Wait>(
     board: &Board<'_, S>,
     plan: &SeatPlan,
     first: usize,
-    places: &mut [SeatCalls<S>],
+    seats: &mut [SeatCalls<S>],
 ) {
     let mut draws = Draws::new(board, plan, first);
     let mut left = if first == 0 { plan.ticks } else { 0 };
     let gap = (plan.turns / plan.ticks.max(1)).max(1);
     for turn in 0..plan.turns {
-        take_turns(rt, &mut draws, places);
+        take_turns(rt, &mut draws, seats);
         if turn % MEETING == 0 {
-            meet(rt, board, places);
+            meet(rt, board, seats);
         }
         if left > 0 && turn % gap == 0 {
-            tick(rt, board, places);
+            tick(rt, board, seats);
             left -= 1;
         }
     }
@@ -139,10 +139,10 @@ pub fn call_alone<S: Site, R: Wait>(
     rt: &R,
     board: &Board<'_, S>,
     plan: &SeatPlan,
-    place: &mut SeatCalls<S>,
+    seat: &mut SeatCalls<S>,
 ) {
     let mut draws = Draws::new(board, plan, 0);
     for _ in 0..plan.turns {
-        take_turn(rt, &mut draws, place);
+        take_turn(rt, &mut draws, seat);
     }
 }
