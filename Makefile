@@ -80,7 +80,7 @@ install: $(PROGRAM) $(VIEW)
 uninstall:
 	$(call all,removed)
 	$(call all_for_c,removed)
-	@rmdir "$(ROOM)/share/doc/fmp" 2> /dev/null || true
+	@rmdir "$(ROOM)/share/doc/fmp" "$(ROOM)/include/fmp" 2> /dev/null || true
 
 .PHONY: quick
 quick:
