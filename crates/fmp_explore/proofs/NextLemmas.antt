@@ -61,8 +61,8 @@ module _ (asked : Asked) where
       record {
         grows = grows;
         leads = λ sure may.
-            leads_done asked (rows_of c) (grows_search asked a c grows h).survey.fields w came ss e done.done done.did
-            (fit_by asked (rows_of c) (grows_search asked a c grows h).survey.fields c.rows.outs w e (Did done.done)
+            leads_done asked (rows_of c) (grows_search asked a c grows h).table.fields w came ss e done.done done.did
+            (fit_by asked (rows_of c) (grows_search asked a c grows h).table.fields c.rows.outs w e (Did done.done)
             done.did (λ outs.
             subst (λ (v : World MachineContext). list_all (is_written i.system i.code v) done.done.lines ≡ true)
             done.world
@@ -95,7 +95,7 @@ module _ (asked : Asked) where
       record {
         grows = grows;
         leads = λ sure may.
-            leads_kept asked (rows_of c) (grows_search asked a c grows h).survey.fields w came ss e kept_place.place
+            leads_kept asked (rows_of c) (grows_search asked a c grows h).table.fields w came ss e kept_place.place
             k.world kept_place.keeps
             (kept_by_run i.system (code_meaning i.code) w kept_place.place k.world n e kept_place.keeps) sound
             (kept.known sure);
@@ -163,7 +163,7 @@ module _ (asked : Asked) where
       → HasKept asked a b k.world (watched_with q (count_by is_interrupt q.after.items) ss) → IsBegun asked b
   begun_of a b k ss h clean followed is kept =
       record {
-        survey = grows_search asked a b kept.grows h;
+        search = grows_search asked a b kept.grows h;
         clean = λ sure. clean (kept.grows.sure sure);
         first = λ sure.
             subst (λ (xs : List Monitor). IsKept asked (rows_of b) (replay i n q.after.items).world
@@ -176,7 +176,7 @@ module _ (asked : Asked) where
   pub begun_nowhere : (a b : Search) → Stays a b → IsSearch asked a → b.sure ≡ false → IsBegun asked b
   begun_nowhere a b stays h lost =
       record {
-        survey = stays_search asked a b stays h;
+        search = stays_search asked a b stays h;
         clean = λ sure. absurd (cc (sure, lost));
         first = λ sure. absurd (cc (sure, lost));
       }
@@ -187,15 +187,15 @@ module _ (asked : Asked) where
       → length b.rows.first.items ≡ length b.rows.fields.items + 2 * length q.monitors.items → IsSearch asked b
   fresh_search a b h tries fields outs live size =
       record {
-        survey =
+        table =
             record {
-              tries = tries ∙ h.survey.tries;
+              tries = tries ∙ h.table.tries;
               fields = subst (λ (fs : List What). AreAllFields i.system i.code (is_some q.interrupts) fs)
-                  (sym fields) h.survey.fields;
+                  (sym fields) h.table.fields;
               live =
                   subst (λ (outs : Bool). AreLiveTables outs i.code (live_tables b.rows.live)) (sym outs)
                   (subst (λ (x : LiveLocals). AreLiveTables a.rows.outs i.code (live_tables x)) (sym live)
-                  h.survey.live);
+                  h.table.live);
             };
         first = size;
       }

@@ -83,7 +83,7 @@ module _ (asked : Asked) where
       → HasTriedOut asked b c k.world (watched_in q at) → HasExamined asked a c at.state
   state_examined a b c at k stays stands tried =
       record {
-        survey = tried.survey;
+        search = tried.search;
         grows = grows_on a b c (stays_grows a b stays) tried.grows;
         examined = λ sure row there.
             let same : Some stands.row ≡ Some row =
@@ -105,7 +105,7 @@ module _ (asked : Asked) where
       → HasExamined asked a b state
   state_lost a b state h stays lost =
       record {
-        survey = grows_search asked a b (stays_grows a b stays) h;
+        search = grows_search asked a b (stays_grows a b stays) h;
         grows = stays_grows a b stays;
         examined = λ sure. absurd (cc (sure, lost));
       }
@@ -117,9 +117,9 @@ module _ (asked : Asked) where
   none_examined s h = record { begun = h; each = λ sure k row lt. absurd (omega (arith, lt)) }
 
   begun_later : (a b : Search) → Grows a b → IsBegun asked a → IsSearch asked b → IsBegun asked b
-  begun_later a b g h survey =
+  begun_later a b g h later =
       record {
-        survey = survey;
+        search = later;
         clean = λ sure. h.clean (g.sure sure);
         first = λ sure.
             subst (λ (kept : KeptRows). IsKept asked kept (replay i n q.after.items).world (watched_first asked))
@@ -134,7 +134,7 @@ module _ (asked : Asked) where
       → IsExamined asked (rows_of b) row) → IsSearching asked end b
   more_examined k end a b h le grows each =
       record {
-        begun = begun_later a b grows h.begun (grows_search asked a b grows h.begun.survey);
+        begun = begun_later a b grows h.begun (grows_search asked a b grows h.begun.search);
         each = λ sure j row within there. by_order sure j row within there (cases_lt j k);
       } where
         there_before : (j : ℕ) (row : List ℕ) → j < length a.seen.rows → slice_get b.seen.rows j ≡ Some row
@@ -208,11 +208,11 @@ module _ (asked : Asked) where
     -- the world that was tried out for a row is like each that has the row, and the same is watched there
     alike_at : (w : World MachineContext) (a : Watched) (k : K w a) (x : IsExamined asked kept k.row)
         → Like w x.world
-    alike_at w a k x = row_alike asked kept h.survey.fields h.first w x.world a x.watched k.row k.has x.has
+    alike_at w a k x = row_alike asked kept h.table.fields h.first w x.world a x.watched k.row k.has x.has
 
     watch_at : (w : World MachineContext) (a : Watched) (k : K w a) (x : IsExamined asked kept k.row)
         → x.watched ≡ a
-    watch_at w a k x = sym (row_watch asked kept h.survey.fields h.first w x.world a x.watched k.row k.has x.has)
+    watch_at w a k x = sym (row_watch asked kept h.table.fields h.first w x.world a x.watched k.row k.has x.has)
 
     -- what may come to a world may come to one that is like it
     may_at : (w : World MachineContext) (a : Watched) (k : K w a) (x : IsExamined asked kept k.row) (e : Event)
@@ -284,7 +284,7 @@ module _ (asked : Asked) where
       record {
         world = (setup i.system (code_meaning i.code)).world;
         alike =
-            alike_self asked (rows_of s) h.survey.survey.fields (setup i.system (code_meaning i.code)).world
+            alike_self asked (rows_of s) h.search.table.fields (setup i.system (code_meaning i.code)).world
             first.has.sound;
         kept = first;
       }
@@ -292,7 +292,7 @@ module _ (asked : Asked) where
   -- where each state is examined, nothing is found
   pub nothing_found : (s : Search) → IsWhole asked s → q.after.items ≡ [] → s.sure ≡ true → NoneIsFound asked
   nothing_found s h none sure =
-      let survey : IsSearch asked s = h.begun.survey in
+      let kept : IsSearch asked s = h.begun.search in
       let examined : (k : ℕ) (row : List ℕ) → slice_get s.seen.rows k ≡ Some row → IsExamined asked (rows_of s) row =
       h.each sure in
       let K : World MachineContext → Watched → Type 0 =
@@ -303,12 +303,12 @@ module _ (asked : Asked) where
       (forbids q.nevers.items) q.rest.items K =
       record {
         like = likeness s.rows.outs asked;
-        whole = whole s survey;
+        whole = whole s kept;
         first = first_covered s h.begun none sure;
-        tried = tried s survey examined;
-        clean = clean s survey;
-        upheld = upheld s survey examined;
-        free = free s survey examined;
+        tried = tried s kept examined;
+        clean = clean s kept;
+        upheld = upheld s kept examined;
+        free = free s kept examined;
       } in
       record {
         holds =
@@ -318,5 +318,5 @@ module _ (asked : Asked) where
             searched-silent (rules_of q) i.system (code_meaning i.code) n (forbids q.nevers.items) q.rest.items K
             (forbids-timeless q.nevers.items) R F searched
             (forbids_there i.system q.nevers_at.items) (there-even s.rows.outs i.system i.code q.nevers_at.items)
-            (silent s survey examined);
+            (silent s kept examined);
       }

@@ -79,14 +79,14 @@ same_live asked a b s h = live_on asked a.rows.outs b.rows.outs a.rows.live b.ro
 pub same_search : (asked : Asked) (a b : Search) → SameTable a b → IsSearch asked a → IsSearch asked b
 same_search asked a b s h =
     record {
-      survey =
+      table =
           record {
-            tries = s.tries ∙ h.survey.tries;
+            tries = s.tries ∙ h.table.tries;
             fields = subst
                 (λ (fs : List What). AreAllFields asked.image.system asked.image.code
                 (is_some asked.question.interrupts) fs)
-                (sym s.fields) h.survey.fields;
-            live = same_live asked a b s h.survey.live;
+                (sym s.fields) h.table.fields;
+            live = same_live asked a b s h.table.live;
           };
       first =
           ap (λ (xs : List ℕ). length xs) s.first ∙ h.first

@@ -67,15 +67,15 @@ pub slice_of : (asked : Asked) (whole s : Search) → IsSearch asked whole
     → HasLive asked s.rows → IsSliceOf asked whole s
 slice_of asked whole s h tries fields first outs live =
     record {
-      survey =
+      search =
           record {
-            survey =
+            table =
                 record {
-                  tries = tries ∙ h.survey.tries;
+                  tries = tries ∙ h.table.tries;
                   fields = subst
                       (λ (fs : List What). AreAllFields asked.image.system asked.image.code
                       (is_some asked.question.interrupts) fs)
-                      (sym fields) h.survey.fields;
+                      (sym fields) h.table.fields;
                   live = live;
                 };
             first =
@@ -91,7 +91,7 @@ pub slice_grows : (asked : Asked) (whole a b : Search) → Grows a b → IsSlice
     → IsSliceOf asked whole b
 slice_grows asked whole a b g h =
     record {
-      survey = grows_search asked a b g h.survey;
+      search = grows_search asked a b g h.search;
       outs = g.same.outs ∙ h.outs;
       fields = g.same.fields ∙ h.fields;
       first = g.same.first ∙ h.first;
@@ -122,7 +122,7 @@ pub first_examined : (asked : Asked) (k : ℕ) (a b c : Search) → HasExaminedF
     → HasExaminedFirst asked (k + 1) a c
 first_examined asked k a b c h x =
     record {
-      survey = x.survey;
+      search = x.search;
       grows = grows_on a b c h.grows x.grows;
       each = λ sure j row before there. by_order sure j row before there (cases_lt j k);
     } where
@@ -156,11 +156,11 @@ pub taken_ready : (asked : Asked) (whole : Search) (slices : List (Result Slice 
     → AreTakenOver asked whole slices → AreReady asked slices
 taken_ready asked whole slices h =
     All-weaker (λ s. IfOk s (IsTaken asked whole)) (λ s. IfOk s (λ slice. IsSearch asked slice.search))
-    (λ s t. IfOk-weaker s _ _ (λ _ taken. taken.same.survey) t) slices h
+    (λ s t. IfOk-weaker s _ _ (λ _ taken. taken.same.search) t) slices h
 
 pub slice_ready : (asked : Asked) (whole : Search) (slice : Result Slice AllocError)
     → IfOk slice (IsTaken asked whole) → IfOk slice (λ s. IsSearch asked s.search)
-slice_ready asked whole slice h = IfOk-weaker slice _ _ (λ _ taken. taken.same.survey) h
+slice_ready asked whole slice h = IfOk-weaker slice _ _ (λ _ taken. taken.same.search) h
 
 -- the last of states that are handed over, and the others
 pub last_taken : (asked : Asked) (whole : Search) (all others : List (Result Slice AllocError))
@@ -189,7 +189,7 @@ slice_stays asked a b g slice h =
     record {
       same =
           record {
-            survey = h.same.survey;
+            search = h.same.search;
             outs = h.same.outs ∙ sym g.same.outs;
             fields = h.same.fields ∙ sym g.same.fields;
             first = h.same.first ∙ sym g.same.first;

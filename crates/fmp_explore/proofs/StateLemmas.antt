@@ -46,7 +46,7 @@ use Rattle.fmp_witness.specs.Asked.{Asked}
 abbrev pub with_rows : KeptRows → List (List ℕ) → KeptRows
 with_rows kept rows = record kept { rows = rows }
 
--- the rows with more behind them
+-- the rows with more after them
 abbrev pub grown : KeptRows → List (List ℕ) → KeptRows
 grown kept more = with_rows kept (kept.rows ++ more)
 

@@ -1,4 +1,4 @@
--- A search behind events that is whole shows that a task never acts after them.
+-- A search after events that is whole shows that a task never acts after them.
 use Rattle.std.proofs.Common.{◌≡◌, ◌≢◌, ℕ, List, Option, Some, None, Bool, true, refl, sym, ap, subst, ◌∙◌}
 use Rattle.std.proofs.Common.{count_by, not}
 use Rattle.fmp_bisimulation.specs.Closed.{IsCovered}
@@ -15,7 +15,7 @@ use Rattle.fmp_question.specs.declared.question.Never.{Never}
 use Rattle.fmp_question.specs.declared.question.Question.{Question}
 use Rattle.fmp_explore.specs.declared.searches.Search.{Search}
 use Rattle.fmp_question.specs.declared.question.Ticks.{Ticks}
-use Rattle.fmp_explore.specs.Behind.{IsAbout, NeverActs, NoneFollows}
+use Rattle.fmp_explore.specs.After.{IsAbout, NeverActs, NoneFollows}
 use Rattle.fmp_witness.specs.Followed.{IsFollowed}
 use Rattle.fmp_question.specs.Forbidden.{forbids}
 use Rattle.fmp_question.specs.Rules.{is_idle, rules_of}
@@ -69,7 +69,7 @@ module _ (asked : Asked) (s : Search) (h : IsWhole asked s) (sure : s.sure ≡ t
       (watch (rules_of q) (forbids q.nevers.items))
       (may_come (rules_of q) i.system (code_meaning i.code) n) K
       (watch-blind (forbids q.nevers.items) (forbids-timeless q.nevers.items) (rules_of q))
-      (whole asked s h.begun.survey) (tried asked s h.begun.survey (h.each sure))
+      (whole asked s h.begun.search) (tried asked s h.begun.search (h.each sure))
 
   first : IsCovered (IsLike s.rows.outs i.system i.code) K (reached i.system (code_meaning i.code) n q.after.items)
       (watched_first asked)
@@ -81,18 +81,18 @@ module _ (asked : Asked) (s : Search) (h : IsWhole asked s) (sure : s.sure ≡ t
       (record {
         world = (replay i n q.after.items).world;
         alike =
-            alike_self asked (rows_of s) h.begun.survey.survey.fields (replay i n q.after.items).world
+            alike_self asked (rows_of s) h.begun.search.table.fields (replay i n q.after.items).world
             known.has.sound;
         kept = known;
       })
 
-  -- no forbidden line is told behind the events where the search began
+  -- no forbidden line is told after the events where the search began
   pub none_follows : NoneFollows asked
   none_follows none more follow =
       none-behind (rules_of q) i.system (code_meaning i.code) n (forbids q.nevers.items) K
       (forbids-timeless q.nevers.items) (IsLike s.rows.outs i.system i.code) (IsFit s.rows.outs i.system i.code n)
       (likeness s.rows.outs asked) closed
-      (clean asked s h.begun.survey) q.after.items more
+      (clean asked s h.begun.search) q.after.items more
       (watched_first asked) refl
       (ap (λ (ms : List Monitor). monitors_after ms (setup i.system (code_meaning i.code)).lines) none)
       (came_counted q.interrupts (count_by is_interrupt q.after.items)) first follow

@@ -34,7 +34,7 @@ module _ (asked : Asked) (w : World MachineContext) (x : Watched) where
   -- nothing was tried yet
   pub none_tried : (s : Search) (m : StateMarks) → IsSearch asked s → AreMarks asked w x m → IsTrying asked w x m 0 s
   none_tried s m h marks =
-      record { survey = h; marks = marks; each = λ sure place e lt. absurd (omega (arith, lt)) }
+      record { search = h; marks = marks; each = λ sure place e lt. absurd (omega (arith, lt)) }
 
   -- the event at this place was tried, or may not come
   pub one_tried : (a b : Search) (l m : StateMarks) (place : ℕ) (e : Event) → IsTrying asked w x l place a
@@ -43,7 +43,7 @@ module _ (asked : Asked) (w : World MachineContext) (x : Watched) where
       → IsTrying asked w x m (place + 1) b
   one_tried a b l m place e t found grows marks leads =
       record {
-        survey = grows_search asked a b grows t.survey;
+        search = grows_search asked a b grows t.search;
         marks = marks;
         each = λ sure p f lt there may. by_order sure p f lt there may (cases_lt p place);
       } where
@@ -62,7 +62,7 @@ module _ (asked : Asked) (w : World MachineContext) (x : Watched) where
       → IsTrying asked w x m tried b
   tried_stays a b m tried s t =
       record {
-        survey = stays_search asked a b s t.survey;
+        search = stays_search asked a b s t.search;
         marks = t.marks;
         each = λ sure p e lt found may. leads_later a b e (stays_grows a b s) (t.each (s.sure sure) p e lt found may);
       }
@@ -72,7 +72,7 @@ module _ (asked : Asked) (w : World MachineContext) (x : Watched) where
       → IsTrying asked w x m fewer s
   fewer_tried s m tried fewer le t =
       record {
-        survey = t.survey;
+        search = t.search;
         marks = t.marks;
         each = λ sure p e lt found may. t.each sure p e (omega (arith, lt, le)) found may;
       }
@@ -85,14 +85,14 @@ module _ (asked : Asked) (w : World MachineContext) (x : Watched) where
   -- a world is tried out in a search that has grown before
   pub tried_out_before : (a b c : Search) → Grows a b → HasTriedOut asked b c w x → HasTriedOut asked a c w x
   tried_out_before a b c g out =
-      record { survey = out.survey; grows = grows_on a b c g out.grows; tried = out.tried }
+      record { search = out.search; grows = grows_on a b c g out.grows; tried = out.tried }
 
   -- every event was tried, the world is no deadlock, and its state breaks no sentence
   pub all_tried : (a b c : Search) (m : StateMarks) → IsImage i
       → HasTried asked w x m a b (length (all_tries i.system)) → HasLookedAt asked b c w x → HasTriedOut asked a c w x
   all_tried a b c m image t look =
       record {
-        survey = stays_search asked b c look.stays t.trying.survey;
+        search = stays_search asked b c look.stays t.trying.search;
         grows = grows_on a b c t.grows (stays_grows b c look.stays);
         tried = λ sure.
             record {

@@ -1,4 +1,4 @@
-pub mod Behind
+pub mod After
 pub mod Noted
 pub mod Searching
 pub mod Slices

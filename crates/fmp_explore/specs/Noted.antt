@@ -16,7 +16,7 @@ events_to links after state last = after ++ path_of links state ++ option_map_or
 abbrev pub depth_at : List StateLink → (state : ℕ) → ℕ
 depth_at links state = option_map_or (λ link. link.depth) (slice_get links state) 0
 
--- a search goes on beside a finding of this kind, where only the first is asked for: a body goes on for ever
+-- a search goes on beside a finding of this kind, where only the first is asked for: a body goes on forever
 abbrev pub goes_on_beside : FindingKind → Bool
 goes_on_beside (kind.Endless p) = true
 goes_on_beside _ = false

@@ -14,7 +14,10 @@ use Rattle.fmp_explore.specs.declared.searching.Ending.{Ending}
 use Rattle.fmp_explore.specs.declared.searching.Ending.TheVariants as ending
 use Rattle.fmp_explore.specs.declared.rows.Rows.{Rows}
 use Rattle.fmp_explore.specs.declared.searches.Search.{Search}
+use Rattle.fmp_explore.specs.declared.kernels.KernelPair.{KernelPair}
+use Rattle.fmp_explore.specs.declared.trying.Attempt.{Attempt}
 use Rattle.fmp_explore.specs.declared.trying.ExaminedState.{ExaminedState}
+use Rattle.fmp_explore.specs.declared.trying.Examination.{Examination}
 use Rattle.fmp_explore.specs.declared.trying.StateMarks.{StateMarks}
 use Rattle.fmp_witness.specs.declared.finding.Finding.{Finding}
 use Rattle.fmp_witness.specs.Findings.{IsFound}
@@ -40,13 +43,18 @@ use Rattle.fmp_schedules.specs.declared.monitor.Monitor.{Monitor}
 use Rattle.fmp_schedules.specs.Monitors.{is_any_broken_in}
 use Rattle.fmp_schedules.specs.Schedules.{Holds, HoldsThere, Watched, may_still, none_runs, monitors_after}
 use Rattle.fmp_schedules.specs.Schedules.{watched_at_setup}
-use Rattle.fmp_witness.specs.Asked.{Asked, meaning_of}
+use Rattle.fmp_witness.specs.Asked.{Asked, asked_of, meaning_of}
 
 -- ---- kernels
 
 -- a kernel of the image, at the bound, in whatever state
 abbrev pub IsKernelOf : Asked → KernelView (List BodyTables) MachineContext → Type 0
 IsKernelOf asked k = IsOver asked.image asked.bound k
+
+-- both kernels are so
+pub record AreKernelsOf (asked : Asked) (kernels : KernelPair) : Type 0 where
+  pub top : IsKernelOf asked kernels.top
+  pub work : IsKernelOf asked kernels.work
 
 -- such a kernel in a sound world
 pub record IsSoundKernel (asked : Asked) (k : KernelView (List BodyTables) MachineContext) : Type 0 where
@@ -107,12 +115,12 @@ pub record IsSearchOf (asked : Asked) (s : Search) : Type 0 where
 
 -- a search that has no state yet
 pub record IsFresh (asked : Asked) (s : Search) : Type 0 where
-  pub survey : IsSearchOf asked s
+  pub table : IsSearchOf asked s
   pub none : s.seen.rows ≡ []
 
 -- a search that keeps states
 pub record IsSearch (asked : Asked) (s : Search) : Type 0 where
-  pub survey : IsSearchOf asked s
+  pub table : IsSearchOf asked s
   pub first : length s.rows.first.items ≡ length s.rows.fields.items + 2 * length asked.question.monitors.items
 
 -- two searches have the same events, fields, live locals and first numbers
@@ -160,7 +168,7 @@ IsClean asked =
 
 -- the state in which the search begins is kept
 pub record IsBegun (asked : Asked) (s : Search) : Type 0 where
-  pub survey : IsSearch asked s
+  pub search : IsSearch asked s
   pub clean : s.sure ≡ true → IsClean asked
   pub first :
       s.sure ≡ true →
@@ -175,6 +183,14 @@ pub record IsStateFor (asked : Asked) (at : ExaminedState) : Type 0 where
 -- what is watched in a state that is examined
 abbrev pub watched_in : Question → ExaminedState → Watched
 watched_in q at = watched_with q at.came at.monitors.items
+
+-- what is asked where a state is examined
+abbrev pub asked_here : Examination → Asked
+asked_here here = asked_of here.subject.now
+
+-- what is watched there
+abbrev pub watched_here : Examination → Watched
+watched_here here = watched_in (asked_here here).question here.at.now
 
 -- a kernel is in the state that is examined: it has the row that is kept of it
 pub record StandsAt (asked : Asked) (s : Search) (at : ExaminedState)
@@ -211,10 +227,23 @@ came_on None came e = 0
 came_on (Some most) came (event.Int number) = came + 1
 came_on (Some most) came _ = came
 
--- an event is tried in such a state, and the interrupts still fit a byte with it
-pub record IsAttemptFor (asked : Asked) (at : ExaminedState) (e : Event) : Type 0 where
-  pub state : IsStateFor asked at
-  pub few : AreFew asked.question (came_on asked.question.interrupts at.came e)
+-- what is watched after an event that is tried, with these monitors
+abbrev pub watched_after : Attempt → List Monitor → Watched
+watched_after attempt monitors =
+    watched_with (asked_here attempt.here).question
+    (came_on (asked_here attempt.here).question.interrupts attempt.here.at.now.came attempt.event) monitors
+
+-- the state is one of those that are examined, and the interrupts still fit a byte with the event
+pub record IsAttempt (attempt : Attempt) : Type 0 where
+  pub state : IsStateFor (asked_here attempt.here) attempt.here.at.now
+  pub few :
+      AreFew (asked_here attempt.here).question
+      (came_on (asked_here attempt.here).question.interrupts attempt.here.at.now.came attempt.event)
+
+-- what the event leads to in a world is kept, if it may come
+abbrev pub HasDealtWith : Attempt → (old new : Search) → World MachineContext → Type 0
+HasDealtWith attempt old new w =
+    HasDealt (asked_here attempt.here) old new w (watched_here attempt.here) attempt.event
 
 -- where the event is an interrupt, it may come
 abbrev pub MayRequest : Question → Watched → Event → Type 0
@@ -230,7 +259,7 @@ marked m (event.Int i) = record m { interrupted = true }
 -- the first events of those that are tried were tried in a world, this many
 pub record IsTrying (asked : Asked) (w : World MachineContext) (a : Watched) (m : StateMarks)
     (tried : ℕ) (s : Search) : Type 0 where
-  pub survey : IsSearch asked s
+  pub search : IsSearch asked s
   pub marks : AreMarks asked w a m
   pub each :
       s.sure ≡ true → (place : ℕ) (e : Event) → place < tried →
@@ -248,7 +277,7 @@ pub record HasLooked (asked : Asked) (old new : Search) (w : World MachineContex
   pub stays : Stays old new
   pub free : new.sure ≡ true → IsStuckIn asked w a → ⊥
 
--- it was looked whether a world is a deadlock, and whether its state breaks a sentence
+-- it was checked whether a world is a deadlock, and whether its state breaks a sentence
 pub record HasLookedAt (asked : Asked) (old new : Search) (w : World MachineContext) (a : Watched) : Type 0 where
   pub stays : Stays old new
   pub upheld : new.sure ≡ true → is_any_broken_in asked.question.monitors.items w.state ≡ false
@@ -256,13 +285,13 @@ pub record HasLookedAt (asked : Asked) (old new : Search) (w : World MachineCont
 
 -- a world was tried out
 pub record HasTriedOut (asked : Asked) (old new : Search) (w : World MachineContext) (a : Watched) : Type 0 where
-  pub survey : IsSearch asked new
+  pub search : IsSearch asked new
   pub grows : Grows old new
   pub tried : new.sure ≡ true → IsTriedOut asked (rows_of new) w a
 
 -- the state at a place was examined
 pub record HasExamined (asked : Asked) (old new : Search) (state : ℕ) : Type 0 where
-  pub survey : IsSearch asked new
+  pub search : IsSearch asked new
   pub grows : Grows old new
   pub examined :
       new.sure ≡ true → (row : List ℕ) → slice_get old.seen.rows state ≡ Some row →

@@ -9,7 +9,7 @@ use Rattle.fmp_witness.specs.Asked.{Asked}
 
 -- a search that keeps rows as the whole one does
 pub record IsSliceOf (asked : Asked) (whole s : Search) : Type 0 where
-  pub survey : IsSearch asked s
+  pub search : IsSearch asked s
   pub outs : s.rows.outs ≡ whole.rows.outs
   pub fields : s.rows.fields.items ≡ whole.rows.fields.items
   pub first : s.rows.first.items ≡ whole.rows.first.items
@@ -39,7 +39,7 @@ pub record IsTaken (asked : Asked) (whole : Search) (slice : Slice) : Type 0 whe
 
 -- the first states of a search were examined, this many
 pub record HasExaminedFirst (asked : Asked) (count : ℕ) (old new : Search) : Type 0 where
-  pub survey : IsSearch asked new
+  pub search : IsSearch asked new
   pub grows : Grows old new
   pub each :
       new.sure ≡ true → (k : ℕ) (row : List ℕ) → k < count → slice_get old.seen.rows k ≡ Some row →

@@ -30,13 +30,12 @@ use fmp_replay::kernel_of;
 use fmp_schedules::Monitor;
 use fmp_visited::StateLink;
 use fmp_witness::{SearchSubject, follow};
-use std::alloc::{AllocError, Global};
+use std::alloc::AllocError;
 
 impl Search {
     /// Notes the lines of setup.
     fn note_setup(
         &mut self,
-        alloc: Global,
         subject: &SearchSubject<'_>,
         kernel: &Kernel<Vm<'_>>,
     ) -> Result<(), AllocError>
@@ -53,22 +52,15 @@ impl Search {
             last: None,
         };
         let path = setup.among(&self.seen);
-        let found = self.notes.note_lines(alloc, subject, kernel, path, None)?;
+        let found = self.notes.note_lines(subject, kernel, path, None)?;
         self.sure &= !found;
-        self.note_breaches(
-            alloc,
-            kernel.lines(),
-            setup,
-            &subject.question.monitors,
-            None,
-        )
+        self.note_breaches(kernel.lines(), setup, &subject.question.monitors, None)
     }
 
     /// Keeps the first state, that of a kernel which has taken the events after which the search begins, with its
     /// monitors. `AllocError` if memory runs out.
     fn keep_first(
         &mut self,
-        alloc: Global,
         subject: &SearchSubject<'_>,
         kernel: &Kernel<Vm<'_>>,
         monitors: &[Monitor],
@@ -91,19 +83,18 @@ impl Search {
         };
         let came = interrupt_count(&subject.question.after);
         subject.image.keeps_rules();
-        self.keep(alloc, subject, kernel, came, monitors, link)
+        self.keep(subject, kernel, came, monitors, link)
     }
 
     /// Takes the events after which the search begins on a kernel that was just set up, and keeps the state after them,
     /// where the monitors are these at setup. `AllocError` if memory runs out.
-    fn begin_behind(
+    fn begin_after(
         &mut self,
-        alloc: Global,
         subject: &SearchSubject<'_>,
         kernel: &mut Kernel<Vm<'_>>,
         monitors: &[Monitor],
     ) -> Result<(), AllocError>
-        requires survey { IsSearch (asked_of subject.now) self.old }
+        requires search { IsSearch (asked_of subject.now) self.old }
         requires kernel { kernel.old ≡ kernel_after subject.now.image.now subject.now.n [] }
         requires monitors { monitors.now ≡ monitors_at_setup (asked_of subject.now) }
         requires clean { self.old.sure ≡ true → IsClean (asked_of subject.now) }
@@ -118,14 +109,13 @@ impl Search {
             self.sure = false;
             return Ok(());
         }
-        self.keep_first(alloc, subject, kernel, monitors)
+        self.keep_first(subject, kernel, monitors)
     }
 
     /// Keeps the state after the events with which the search begins, on a kernel that was just set up. `AllocError` if
     /// memory runs out.
     fn begin_on(
         &mut self,
-        alloc: Global,
         subject: &SearchSubject<'_>,
         kernel: &mut Kernel<Vm<'_>>,
     ) -> Result<(), AllocError>
@@ -133,20 +123,20 @@ impl Search {
         requires kernel { kernel.old ≡ kernel_after subject.now.image.now subject.now.n [] }
         ensures { OnOk result (IsBegun (asked_of subject.now) self.new) }
     {
-        self.notes.cover(alloc, subject, kernel)?;
-        self.note_setup(alloc, subject, kernel)?;
-        let monitors = monitors_after(alloc, &subject.question.monitors, kernel.lines())?;
+        self.notes.cover(subject, kernel)?;
+        self.note_setup(subject, kernel)?;
+        let monitors = monitors_after(self.alloc, &subject.question.monitors, kernel.lines())?;
         self.rows.begin(kernel, &monitors)?;
-        self.begin_behind(alloc, subject, kernel, &monitors)
+        self.begin_after(subject, kernel, &monitors)
     }
 
     /// Keeps the state after the events with which the search begins. `AllocError` if memory runs out.
-    pub fn begin(&mut self, alloc: Global, subject: &SearchSubject<'_>) -> Result<(), AllocError>
+    pub fn begin(&mut self, subject: &SearchSubject<'_>) -> Result<(), AllocError>
         requires { IsFresh (asked_of subject.now) self.old }
         ensures { OnOk result (IsBegun (asked_of subject.now) self.new) }
     {
-        let mut kernel = kernel_of(alloc, subject.image, subject.n)?;
-        let begun = self.begin_on(alloc, subject, &mut kernel);
+        let mut kernel = kernel_of(self.alloc, subject.image, subject.n)?;
+        let begun = self.begin_on(subject, &mut kernel);
         drop(kernel);
         begun
     }

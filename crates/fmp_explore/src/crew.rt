@@ -8,7 +8,7 @@ ghost use Rattle.fmp_explore.specs.declared.slices.Slice.{Slice};
 ghost use Rattle.fmp_witness.specs.Asked.{asked_of};
 
 use crate::searches::Search;
-use crate::slices::{Slice, Span, examined};
+use crate::slices::{MadeSlice, Span, examined};
 use fmp_witness::SearchSubject;
 use std::alloc::{AllocError, Global};
 use std::thread::Threads;
@@ -30,7 +30,7 @@ pub trait Crew {
         subject: &SearchSubject<'_>,
         whole: &Search,
         span: Span,
-    ) -> Result<Vec<Result<Slice, AllocError>>, AllocError>
+    ) -> Result<Vec<MadeSlice>, AllocError>
         requires crew { can_work self.now }
         requires whole { IsSearch (asked_of subject.now) whole.now }
         ensures { IfOk result (λ slices. AreTakenOver (asked_of subject.now) whole.now slices.items) };
@@ -41,9 +41,9 @@ pub trait Crew {
         &self,
         alloc: Global,
         subject: &SearchSubject<'_>,
-        taken: Vec<Result<Slice, AllocError>>,
+        taken: Vec<MadeSlice>,
         beside: &mut G,
-    ) -> (Result<Vec<Result<Slice, AllocError>>, AllocError>, B)
+    ) -> (Result<Vec<MadeSlice>, AllocError>, B)
         requires crew { can_work self.now }
         requires taken { AreReady (asked_of subject.now) taken.items }
         requires beside { G.pre beside.old }
@@ -69,7 +69,7 @@ impl Crew for Alone {
         _subject: &SearchSubject<'_>,
         _whole: &Search,
         _span: Span,
-    ) -> Result<Vec<Result<Slice, AllocError>>, AllocError> {
+    ) -> Result<Vec<MadeSlice>, AllocError> {
         Ok(Vec::new(alloc))
     }
 
@@ -77,9 +77,9 @@ impl Crew for Alone {
         &self,
         alloc: Global,
         _subject: &SearchSubject<'_>,
-        _taken: Vec<Result<Slice, AllocError>>,
+        _taken: Vec<MadeSlice>,
         beside: &mut G,
-    ) -> (Result<Vec<Result<Slice, AllocError>>, AllocError>, B) {
+    ) -> (Result<Vec<MadeSlice>, AllocError>, B) {
         (Ok(Vec::new(alloc)), beside())
     }
 }
@@ -125,12 +125,12 @@ impl<R: Threads + Sync> Crew for Workers<'_, R> {
         subject: &SearchSubject<'_>,
         whole: &Search,
         span: Span,
-    ) -> Result<Vec<Result<Slice, AllocError>>, AllocError> {
+    ) -> Result<Vec<MadeSlice>, AllocError> {
         let jobs = self.jobs;
-        let take = |k: usize| -> Result<Slice, AllocError>
+        let take = |k: usize| -> MadeSlice
             requires { IsSearch (asked_of subject.now) whole.now }
             ensures { IfOk result (IsTaken (asked_of subject.entry.now) whole.entry.now) }
-        { whole.hand_over(alloc, subject, part(span, jobs, k)) };
+        { whole.hand_over(subject, part(span, jobs, k)) };
         thread::map_indices(self.rt, alloc, jobs, &take)
     }
 
@@ -138,16 +138,16 @@ impl<R: Threads + Sync> Crew for Workers<'_, R> {
         &self,
         alloc: Global,
         subject: &SearchSubject<'_>,
-        taken: Vec<Result<Slice, AllocError>>,
+        taken: Vec<MadeSlice>,
         beside: &mut G,
-    ) -> (Result<Vec<Result<Slice, AllocError>>, AllocError>, B) {
+    ) -> (Result<Vec<MadeSlice>, AllocError>, B) {
         if taken.is_empty() {
             return (Ok(taken), beside());
         }
         let rt = self.rt;
         let mut taken = taken;
         let taken = &mut taken;
-        let mut examine = || -> Result<Vec<Result<Slice, AllocError>>, AllocError>
+        let mut examine = || -> Result<Vec<MadeSlice>, AllocError>
             requires { IsSync R.row × AreReady (asked_of subject.now) taken.now.items }
             ensures { (whole : Search) → AreTakenOver (asked_of subject.entry.now) whole taken.entry.now.items →
                 IfOk result (λ slices. AreSlices (asked_of subject.entry.now) whole slices.items) }
@@ -161,17 +161,17 @@ fn examine_all<R: Threads + Sync>(
     alloc: Global,
     rt: &R,
     subject: &SearchSubject<'_>,
-    taken: Vec<Result<Slice, AllocError>>,
-) -> Result<Vec<Result<Slice, AllocError>>, AllocError>
+    taken: Vec<MadeSlice>,
+) -> Result<Vec<MadeSlice>, AllocError>
     requires { AreReady (asked_of subject.now) taken.items }
     ensures { (whole : Search) → AreTakenOver (asked_of subject.now) whole taken.items →
         IfOk result (λ slices. AreSlices (asked_of subject.now) whole slices.items) }
 {
-    let examine = |slice: Result<Slice, AllocError>| -> Result<Slice, AllocError>
+    let examine = |slice: MadeSlice| -> MadeSlice
         requires { IfOk slice (λ s. IsSearch (asked_of subject.now) s.search) }
         ensures { (whole : Search) → IfOk slice (IsTaken (asked_of subject.entry.now) whole) →
             IfOk result (IsSlice (asked_of subject.entry.now) whole) }
-    { examined(alloc, subject, slice) };
+    { examined(subject, slice) };
     let made = thread::map_vec(rt, taken, &examine)?;
     Ok(made)
 }

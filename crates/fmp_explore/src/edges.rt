@@ -108,7 +108,7 @@ impl Edges {
         }
     }
 
-    /// A task acts by an event of the state that is examined, or goes on for ever in it.
+    /// A task acts by an event of the state that is examined, or goes on forever in it.
     pub fn note_act(&mut self, t: u8) {
         self.actors.set(self.targets.last(), usize::from(t));
     }

@@ -10,7 +10,7 @@ use crate::slices::Slice;
 use crate::targets::EnteredStates;
 use fmp_visited::StateLink;
 use fmp_witness::SearchSubject;
-use std::alloc::{AllocError, Global};
+use std::alloc::AllocError;
 
 /// Whether a search has no more states than this.
 fn has_all(search: &Search, count: u32) -> bool
@@ -55,25 +55,18 @@ impl Search {
     }
 
     /// Keeps the state at a place of a slice, to which this link leads here: its place here.
-    fn enter_next(
-        &mut self,
-        alloc: Global,
-        slice: &Slice,
-        k: u32,
-        link: StateLink,
-    ) -> Result<u32, AllocError>
+    fn enter_next(&mut self, slice: &Slice, k: u32, link: StateLink) -> Result<u32, AllocError>
         ensures grows { OnOk result (Grows self.old self.new) }
         ensures kept { OnOk result (self.new.sure ≡ true → (row : List ℕ) →
             slice_get slice.now.search.seen.rows k ≡ Some row → IsAmong self.new.seen.rows row) }
     {
-        self.keep_row(alloc, slice.search.seen.row(k), link)
+        self.keep_row(slice.search.seen.row(k), link)
     }
 
     /// Keeps the states of a slice from a place on to which events of the slice's state at `parent` led, which stands
     /// at this place here. Gives the place of the first one that is left.
     fn enter_from(
         &mut self,
-        alloc: Global,
         slice: &Slice,
         parent: u32,
         from: u32,
@@ -90,7 +83,7 @@ impl Search {
             if slice.span.first.saturating_add(link.parent) != parent {
                 return Ok(k);
             }
-            let place = self.enter_next(alloc, slice, k, StateLink { parent, ..link })?;
+            let place = self.enter_next(slice, k, StateLink { parent, ..link })?;
             places.push(place)?;
         }
         Ok(u32::MAX)
@@ -100,7 +93,6 @@ impl Search {
     /// states there were when it was told last.
     fn enter_rows<W: SearchWatcher>(
         &mut self,
-        alloc: Global,
         slice: &Slice,
         watcher: &mut W,
         told: usize,
@@ -112,14 +104,14 @@ impl Search {
         let mut next = self.enter_all_own(slice, places)?;
         let mut told = told;
         for place in slice.span.first..slice.span.end {
-            next = self.enter_from(alloc, slice, place, next, places)?;
+            next = self.enter_from(slice, place, next, places)?;
             told = self.tell(watcher, told, place as usize + 1);
         }
         Ok((next, told))
     }
 
     /// Adds what a slice noted, whose states were entered so. All of them are kept, or not.
-    fn join(&mut self, alloc: Global, theirs: &Search, states: EnteredStates<'_>, all: bool)
+    fn join(&mut self, theirs: &Search, states: EnteredStates<'_>, all: bool)
         ensures stays { Stays self.old self.new }
         ensures sure { self.new.sure ≡ true → theirs.now.sure ≡ true }
         ensures all { self.new.sure ≡ true → all ≡ true }
@@ -127,14 +119,13 @@ impl Search {
         self.sure &= theirs.sure;
         self.sure &= all;
         self.notes.join(&theirs.notes);
-        self.edges.join(alloc, &theirs.edges, states);
+        self.edges.join(self.alloc, &theirs.edges, states);
     }
 
     /// Enters what a slice found, and tells how far the search has come. Gives how many states there were when it was
     /// told last. `AllocError` if memory runs out.
     pub fn enter<W: SearchWatcher>(
         &mut self,
-        alloc: Global,
         slice: &Slice,
         watcher: &mut W,
         told: usize,
@@ -142,15 +133,15 @@ impl Search {
         ensures { OnOk result (HasEntered slice.now.search self.old self.new) }
     {
         let kept = self.seen.len();
-        let mut places = Vec::new(alloc);
-        let (next, told) = self.enter_rows(alloc, slice, watcher, told, &mut places)?;
+        let mut places = Vec::new(self.alloc);
+        let (next, told) = self.enter_rows(slice, watcher, told, &mut places)?;
         let all = has_all(&slice.search, next);
         let states = EnteredStates {
             seen: &slice.search.seen,
             places: &places,
             kept,
         };
-        self.join(alloc, &slice.search, states, all);
+        self.join(&slice.search, states, all);
         Ok(told)
     }
 }

@@ -1,25 +1,27 @@
-//! Examining a state: each event that may come is tried in it, and it is looked whether it is a deadlock.
+//! Examining a state: each event that may come is tried in it, and it is checked whether it is a deadlock.
 ghost use Rattle.std.specs.Prelude.{◌≡◌, ◌≢◌, ◌+◌, ◌<◌, ◌≤◌, [], IfOk, IsTrue, OnOk, false, is_some, length, true};
 ghost use Rattle.fmp_base.specs.Steps.{Nothing};
 ghost use Rattle.fmp_base.specs.Meanings.{World};
 ghost use Rattle.fmp_instructions.specs.declared.instructions.MachineContext.{MachineContext};
-ghost use Rattle.fmp_explore.specs.Searching.{AreMarks, CanStep, Grows, HasDealt, HasExamined, HasLooked, HasLookedAt};
-ghost use Rattle.fmp_explore.specs.Searching.{HasTried, HasTriedOut, IsAttemptFor, IsKernelOf, IsSearch, IsStateFor};
-ghost use Rattle.fmp_explore.specs.Searching.{IsTrying, MayRequest, came_on, watched_in};
+ghost use Rattle.fmp_explore.specs.Searching.{AreKernelsOf, AreMarks, CanStep, Grows, HasDealtWith, HasExamined};
+ghost use Rattle.fmp_explore.specs.Searching.{HasLooked, HasLookedAt, HasTried, HasTriedOut, IsAttempt, IsKernelOf};
+ghost use Rattle.fmp_explore.specs.Searching.{IsSearch, IsStateFor, IsTrying, MayRequest, asked_here, came_on};
+ghost use Rattle.fmp_explore.specs.Searching.{watched_here};
 ghost use Rattle.fmp_explore.specs.States.{AreFew, MayCome, counted, reaction_in};
 ghost use Rattle.fmp_schedules.specs.Schedules.{may_still};
 ghost use Rattle.fmp_schedules.specs.Tries.{all_tries};
 ghost use Rattle.fmp_witness.specs.Asked.{asked_of};
 
+use crate::kernels::KernelPair;
 use crate::searches::Search;
 use crate::stretching::Ahead;
-use crate::trying::{Attempt, ExaminedState, StateMarks};
+use crate::trying::{Attempt, Examination, StateMarks};
 use fmp_base::{Effect, Event};
 use fmp_code::Vm;
 use fmp_kernel::Kernel;
 use fmp_question::{Question, Ticks, stands_still};
 use fmp_witness::{FindingKind, SearchSubject};
-use std::alloc::{AllocError, Global};
+use std::alloc::AllocError;
 
 /// Whether one more interrupt may come where this many came.
 fn may_interrupt(question: &Question, came: usize) -> bool
@@ -44,20 +46,20 @@ fn may_tick(question: &Question, marks: StateMarks) -> bool
 }
 
 /// Whether an event may be tried in a state where this was done.
-fn may_try(subject: &SearchSubject<'_>, at: &ExaminedState, marks: StateMarks, event: Event) -> bool
-    requires few { AreFew subject.now.question.now at.now.came }
-    ensures few { IsTrue result →
-        AreFew subject.now.question.now (came_on subject.now.question.now.interrupts at.now.came event) }
+fn may_try(here: Examination<'_, '_>, marks: StateMarks, event: Event) -> bool
+    requires few { AreFew (asked_here here).question here.at.now.came }
+    ensures few { IsTrue result → AreFew (asked_here here.entry).question
+        (came_on (asked_here here.entry).question.interrupts here.entry.at.now.came event) }
     ensures no { (w : World MachineContext) → result ≡ false →
-        AreMarks (asked_of subject.now) w (watched_in subject.now.question.now at.now) marks →
-        MayCome (asked_of subject.now) w (watched_in subject.now.question.now at.now) event → ⊥ }
+        AreMarks (asked_here here.entry) w (watched_here here.entry) marks →
+        MayCome (asked_here here.entry) w (watched_here here.entry) event → ⊥ }
     ensures request { result ≡ true →
-        MayRequest subject.now.question.now (watched_in subject.now.question.now at.now) event }
+        MayRequest (asked_here here.entry).question (watched_here here.entry) event }
 {
     match event {
         Event::Run(_) => true,
-        Event::Tick => may_tick(subject.question, marks),
-        Event::Int(_) => may_interrupt(subject.question, at.came),
+        Event::Tick => may_tick(here.subject.question, marks),
+        Event::Int(_) => may_interrupt(here.subject.question, here.at.came),
     }
 }
 
@@ -84,26 +86,22 @@ impl Search {
     #[tactic(auto, using(crate::proofs::KernelLemmas::step_over))]
     fn attempt_ahead<'a>(
         &mut self,
-        alloc: Global,
-        subject: &SearchSubject<'a>,
         kernel: &mut Kernel<Vm<'a>>,
-        attempt: Attempt<'_>,
+        attempt: Attempt<'_, 'a>,
         ahead: Ahead,
     ) -> Result<bool, AllocError>
-        requires survey { IsSearch (asked_of subject.now) self.old }
-        requires ready { CanStep (asked_of subject.now) kernel.old }
-        requires attempt { IsAttemptFor (asked_of subject.now) attempt.at.now attempt.event }
-        ensures dealt { OnOk result
-            (HasDealt (asked_of subject.now) self.old self.new kernel.old.world
-            (watched_in subject.now.question.now attempt.entry.at.now) attempt.entry.event) }
+        requires search { IsSearch (asked_here attempt.here) self.old }
+        requires ready { CanStep (asked_here attempt.here) kernel.old }
+        requires attempt { IsAttempt attempt }
+        ensures dealt { OnOk result (HasDealtWith attempt.entry self.old self.new kernel.old.world) }
         ensures still { IfOk result (λ did. did ≡ false → kernel.new ≡ kernel.old) }
         ensures does { IfOk result (λ did. did ≡ true →
-            reaction_in (asked_of subject.now) kernel.old.world attempt.entry.event ≢ Nothing) }
-        ensures over { IsKernelOf (asked_of subject.now) kernel.new }
+            reaction_in (asked_here attempt.entry.here) kernel.old.world attempt.entry.event ≢ Nothing) }
+        ensures over { IsKernelOf (asked_here attempt.entry.here) kernel.new }
     {
-        subject.image.keeps_rules();
+        attempt.here.subject.image.keeps_rules();
         let effect = kernel.step(attempt.event);
-        self.note_effect(alloc, subject, kernel, attempt, effect, ahead)?;
+        self.note_effect(kernel, attempt, effect, ahead)?;
         Ok(has_done(effect))
     }
 
@@ -111,58 +109,51 @@ impl Search {
     #[tactic(auto, using(crate::proofs::KernelLemmas::ready_over))]
     fn attempt<'a>(
         &mut self,
-        alloc: Global,
-        subject: &SearchSubject<'a>,
         kernel: &mut Kernel<Vm<'a>>,
-        attempt: Attempt<'_>,
+        attempt: Attempt<'_, 'a>,
     ) -> Result<bool, AllocError>
-        requires survey { IsSearch (asked_of subject.now) self.old }
-        requires ready { CanStep (asked_of subject.now) kernel.old }
-        requires attempt { IsAttemptFor (asked_of subject.now) attempt.at.now attempt.event }
-        ensures dealt { OnOk result
-            (HasDealt (asked_of subject.now) self.old self.new kernel.old.world
-            (watched_in subject.now.question.now attempt.entry.at.now) attempt.entry.event) }
+        requires search { IsSearch (asked_here attempt.here) self.old }
+        requires ready { CanStep (asked_here attempt.here) kernel.old }
+        requires attempt { IsAttempt attempt }
+        ensures dealt { OnOk result (HasDealtWith attempt.entry self.old self.new kernel.old.world) }
         ensures still { IfOk result (λ did. did ≡ false → kernel.new ≡ kernel.old) }
         ensures does { IfOk result (λ did. did ≡ true →
-            reaction_in (asked_of subject.now) kernel.old.world attempt.entry.event ≢ Nothing) }
-        ensures over { IsKernelOf (asked_of subject.now) kernel.new }
+            reaction_in (asked_here attempt.entry.here) kernel.old.world attempt.entry.event ≢ Nothing) }
+        ensures over { IsKernelOf (asked_here attempt.entry.here) kernel.new }
     {
-        let ahead = self.note_ahead(alloc, subject, kernel, attempt)?;
-        self.attempt_ahead(alloc, subject, kernel, attempt, ahead)
+        let ahead = self.note_ahead(kernel, attempt)?;
+        self.attempt_ahead(kernel, attempt, ahead)
     }
 
     /// Tries the event at a place of those that are tried, if it may come now: whether it does something.
     #[tactic(auto, using(crate::proofs::KernelLemmas::ready_over))]
     fn try_at<'a>(
         &mut self,
-        alloc: Global,
-        subject: &SearchSubject<'a>,
         kernel: &mut Kernel<Vm<'a>>,
-        at: &ExaminedState,
+        here: Examination<'_, 'a>,
         marks: &mut StateMarks,
         place: usize,
     ) -> Result<bool, AllocError>
         requires place { place < length self.old.tries.items }
-        requires ready { CanStep (asked_of subject.now) kernel.old }
-        requires state { IsStateFor (asked_of subject.now) at.now }
-        requires trying { IsTrying (asked_of subject.now) kernel.old.world (watched_in subject.now.question.now at.now)
-            marks.old place self.old }
+        requires ready { CanStep (asked_here here) kernel.old }
+        requires state { IsStateFor (asked_here here) here.at.now }
+        requires trying { IsTrying (asked_here here) kernel.old.world (watched_here here) marks.old place self.old }
         ensures trying { OnOk result
-            (IsTrying (asked_of subject.now) kernel.old.world (watched_in subject.now.question.now at.now) marks.new
+            (IsTrying (asked_here here.entry) kernel.old.world (watched_here here.entry) marks.new
             (place + 1) self.new) }
         ensures grows { OnOk result (Grows self.old self.new) }
         ensures still { IfOk result (λ did. did ≡ false → kernel.new ≡ kernel.old) }
-        ensures over { IsKernelOf (asked_of subject.now) kernel.new }
+        ensures over { IsKernelOf (asked_here here.entry) kernel.new }
     {
         let event = self.tries[place];
-        if !may_try(subject, at, *marks, event) {
+        if !may_try(here, *marks, event) {
             return Ok(false);
         }
-        let attempt = Attempt { at, event };
-        if !self.attempt(alloc, subject, kernel, attempt)? {
+        let attempt = Attempt { here, event };
+        if !self.attempt(kernel, attempt)? {
             return Ok(false);
         }
-        subject.image.keeps_rules();
+        here.subject.image.keeps_rules();
         self.notes.events = self.notes.events.saturating_add(1);
         marks.note(event);
         Ok(true)
@@ -173,28 +164,25 @@ impl Search {
     #[tactic(auto, using(crate::proofs::KernelLemmas::ready_over))]
     fn try_from<'a>(
         &mut self,
-        alloc: Global,
-        subject: &SearchSubject<'a>,
         kernel: &mut Kernel<Vm<'a>>,
-        at: &ExaminedState,
+        here: Examination<'_, 'a>,
         marks: &mut StateMarks,
         first: usize,
         end: usize,
     ) -> Result<usize, AllocError>
         requires first { first < end }
         requires end { end ≤ length self.old.tries.items }
-        requires ready { CanStep (asked_of subject.now) kernel.old }
-        requires state { IsStateFor (asked_of subject.now) at.now }
-        requires trying { IsTrying (asked_of subject.now) kernel.old.world (watched_in subject.now.question.now at.now)
-            marks.old first self.old }
+        requires ready { CanStep (asked_here here) kernel.old }
+        requires state { IsStateFor (asked_here here) here.at.now }
+        requires trying { IsTrying (asked_here here) kernel.old.world (watched_here here) marks.old first self.old }
         ensures tried { IfOk result
-            (HasTried (asked_of subject.now) kernel.old.world (watched_in subject.now.question.now at.now) marks.new
+            (HasTried (asked_here here.entry) kernel.old.world (watched_here here.entry) marks.new
             self.old self.new) }
         ensures above { IfOk result (λ next. first < next) }
-        ensures over { IsKernelOf (asked_of subject.now) kernel.new }
+        ensures over { IsKernelOf (asked_here here.entry) kernel.new }
     {
         for place in first..end {
-            if self.try_at(alloc, subject, kernel, at, marks, place)? {
+            if self.try_at(kernel, here, marks, place)? {
                 return Ok(place + 1);
             }
         }
@@ -204,63 +192,58 @@ impl Search {
     /// The same, on a kernel that is first put back into the state that `from` is in.
     fn try_on<'a>(
         &mut self,
-        alloc: Global,
-        subject: &SearchSubject<'a>,
         from: &Kernel<Vm<'a>>,
         kernel: &mut Kernel<Vm<'a>>,
-        at: &ExaminedState,
+        here: Examination<'_, 'a>,
         marks: &mut StateMarks,
         first: usize,
         end: usize,
     ) -> Result<usize, AllocError>
         requires first { first < end }
         requires end { end ≤ length self.old.tries.items }
-        requires ready { CanStep (asked_of subject.now) from.now }
-        requires state { IsStateFor (asked_of subject.now) at.now }
-        requires trying { IsTrying (asked_of subject.now) from.now.world (watched_in subject.now.question.now at.now)
-            marks.old first self.old }
-        requires over { IsKernelOf (asked_of subject.now) kernel.old }
+        requires ready { CanStep (asked_here here) from.now }
+        requires state { IsStateFor (asked_here here) here.at.now }
+        requires trying { IsTrying (asked_here here) from.now.world (watched_here here) marks.old first self.old }
+        requires over { IsKernelOf (asked_here here) kernel.old }
         ensures tried { IfOk result
-            (HasTried (asked_of subject.now) from.now.world (watched_in subject.now.question.now at.now) marks.new
+            (HasTried (asked_here here.entry) from.now.world (watched_here here.entry) marks.new
             self.old self.new) }
         ensures above { IfOk result (λ next. first < next) }
-        ensures over { IsKernelOf (asked_of subject.now) kernel.new }
+        ensures over { IsKernelOf (asked_here here.entry) kernel.new }
     {
         kernel.put_back(from);
-        self.try_from(alloc, subject, kernel, at, marks, first, end)
+        self.try_from(kernel, here, marks, first, end)
     }
 
     /// Tries the events before a place in the state that is examined, in which `from` is: what was done there.
     fn try_before<'a>(
         &mut self,
-        alloc: Global,
-        subject: &SearchSubject<'a>,
         from: &Kernel<Vm<'a>>,
         kernel: &mut Kernel<Vm<'a>>,
-        at: &ExaminedState,
+        here: Examination<'_, 'a>,
         end: usize,
     ) -> Result<StateMarks, AllocError>
-        requires survey { IsSearch (asked_of subject.now) self.old }
+        requires search { IsSearch (asked_here here) self.old }
         requires end { end ≤ length self.old.tries.items }
-        requires ready { CanStep (asked_of subject.now) from.now }
-        requires state { IsStateFor (asked_of subject.now) at.now }
-        requires over { IsKernelOf (asked_of subject.now) kernel.old }
+        requires ready { CanStep (asked_here here) from.now }
+        requires state { IsStateFor (asked_here here) here.at.now }
+        requires over { IsKernelOf (asked_here here) kernel.old }
         ensures tried { IfOk result
-            (λ marks. HasTried (asked_of subject.now) from.now.world (watched_in subject.now.question.now at.now) marks
+            (λ marks. HasTried (asked_here here.entry) from.now.world (watched_here here.entry) marks
             self.old self.new end) }
-        ensures over { IsKernelOf (asked_of subject.now) kernel.new }
+        ensures over { IsKernelOf (asked_here here.entry) kernel.new }
     {
         let mut marks = StateMarks {
             idle: true,
             interrupted: false,
         };
-        self.edges.begin_state(alloc, self.seen.len());
+        self.edges.begin_state(self.alloc, self.seen.len());
         let mut next = 0;
         for _try in 0..end {
             if next >= end {
                 return Ok(marks);
             }
-            next = self.try_on(alloc, subject, from, kernel, at, &mut marks, next, end)?;
+            next = self.try_on(from, kernel, here, &mut marks, next, end)?;
         }
         Ok(marks)
     }
@@ -268,107 +251,91 @@ impl Search {
     /// Tries the last event too, which is at this place: what was done then.
     fn try_last<'a>(
         &mut self,
-        alloc: Global,
-        subject: &SearchSubject<'a>,
         from: &Kernel<Vm<'a>>,
         kernel: &mut Kernel<Vm<'a>>,
-        at: &ExaminedState,
+        here: Examination<'_, 'a>,
         marks: StateMarks,
         last: usize,
     ) -> Result<StateMarks, AllocError>
         requires last { length self.old.tries.items ≤ last + 1 }
-        requires ready { CanStep (asked_of subject.now) from.now }
-        requires state { IsStateFor (asked_of subject.now) at.now }
-        requires trying { IsTrying (asked_of subject.now) from.now.world (watched_in subject.now.question.now at.now)
-            marks last self.old }
-        requires over { IsKernelOf (asked_of subject.now) kernel.old }
+        requires ready { CanStep (asked_here here) from.now }
+        requires state { IsStateFor (asked_here here) here.at.now }
+        requires trying { IsTrying (asked_here here) from.now.world (watched_here here) marks last self.old }
+        requires over { IsKernelOf (asked_here here) kernel.old }
         ensures tried { IfOk result
-            (λ marks. HasTried (asked_of subject.now) from.now.world (watched_in subject.now.question.now at.now) marks
-            self.old self.new (length (all_tries subject.now.image.now.system))) }
-        ensures over { IsKernelOf (asked_of subject.now) kernel.new }
+            (λ marks. HasTried (asked_here here.entry) from.now.world (watched_here here.entry) marks
+            self.old self.new (length (all_tries (asked_here here.entry).image.system))) }
+        ensures over { IsKernelOf (asked_here here.entry) kernel.new }
     {
         let end = self.tries.len();
         if last >= end {
             return Ok(marks);
         }
         let mut marks = marks;
-        let _next = self.try_on(alloc, subject, from, kernel, at, &mut marks, last, end)?;
+        let _next = self.try_on(from, kernel, here, &mut marks, last, end)?;
         Ok(marks)
     }
 
-    /// Looks whether the state of a kernel, in which no processor can do anything, is a deadlock, or waits for an
+    /// Checks whether the state of a kernel, in which no processor can do anything, is a deadlock, or waits for an
     /// interrupt.
     fn look(
         &mut self,
-        alloc: Global,
-        subject: &SearchSubject<'_>,
         kernel: &Kernel<Vm<'_>>,
-        at: &ExaminedState,
+        here: Examination<'_, '_>,
         marks: StateMarks,
     ) -> Result<(), AllocError>
-        requires over { IsKernelOf (asked_of subject.now) kernel.now }
-        requires marks { AreMarks (asked_of subject.now) kernel.now.world (watched_in subject.now.question.now at.now)
-            marks }
+        requires over { IsKernelOf (asked_here here) kernel.now }
+        requires marks { AreMarks (asked_here here) kernel.now.world (watched_here here) marks }
         ensures { OnOk result
-            (HasLooked (asked_of subject.now) self.old self.new kernel.now.world
-            (watched_in subject.now.question.now at.now)) }
+            (HasLooked (asked_here here.entry) self.old self.new kernel.now.world (watched_here here.entry)) }
     {
-        if !stands_still(kernel, subject.question) {
+        if !stands_still(kernel, here.subject.question) {
             return Ok(());
         }
         if marks.interrupted {
-            self.edges.note_waiting(alloc);
+            self.edges.note_waiting(self.alloc);
             return Ok(());
         }
         self.sure = false;
-        self.edges.note_end(alloc);
-        let path = at.end(subject.question).among(&self.seen);
-        self.notes
-            .note_kind(alloc, path, FindingKind::Deadlock, None)
+        self.edges.note_end(self.alloc);
+        let path = here.end().among(&self.seen);
+        self.notes.note_kind(path, FindingKind::Deadlock, None)
     }
 
-    /// Looks whether the state that is examined, in which this was done, is a deadlock.
+    /// Checks whether the state that is examined, in which this was done, is a deadlock.
     fn look_if_idle(
         &mut self,
-        alloc: Global,
-        subject: &SearchSubject<'_>,
         kernel: &Kernel<Vm<'_>>,
-        at: &ExaminedState,
+        here: Examination<'_, '_>,
         marks: StateMarks,
     ) -> Result<(), AllocError>
-        requires over { IsKernelOf (asked_of subject.now) kernel.now }
-        requires marks { AreMarks (asked_of subject.now) kernel.now.world (watched_in subject.now.question.now at.now)
-            marks }
+        requires over { IsKernelOf (asked_here here) kernel.now }
+        requires marks { AreMarks (asked_here here) kernel.now.world (watched_here here) marks }
         ensures { OnOk result
-            (HasLooked (asked_of subject.now) self.old self.new kernel.now.world
-            (watched_in subject.now.question.now at.now)) }
+            (HasLooked (asked_here here.entry) self.old self.new kernel.now.world (watched_here here.entry)) }
     {
         if marks.idle {
-            self.look(alloc, subject, kernel, at, marks)
+            self.look(kernel, here, marks)
         } else {
             Ok(())
         }
     }
 
-    /// Looks whether the state that is examined, in which this was done, is a deadlock, and whether it breaks a
+    /// Checks whether the state that is examined, in which this was done, is a deadlock, and whether it breaks a
     /// sentence.
     fn look_at(
         &mut self,
-        alloc: Global,
-        subject: &SearchSubject<'_>,
         kernel: &Kernel<Vm<'_>>,
-        at: &ExaminedState,
+        here: Examination<'_, '_>,
         marks: StateMarks,
     ) -> Result<(), AllocError>
-        requires over { IsKernelOf (asked_of subject.now) kernel.now }
-        requires marks { AreMarks (asked_of subject.now) kernel.now.world (watched_in subject.now.question.now at.now)
-            marks }
+        requires over { IsKernelOf (asked_here here) kernel.now }
+        requires marks { AreMarks (asked_here here) kernel.now.world (watched_here here) marks }
         ensures { OnOk result
-            (HasLookedAt (asked_of subject.now) self.old self.new kernel.now.world
-            (watched_in subject.now.question.now at.now)) }
+            (HasLookedAt (asked_here here.entry) self.old self.new kernel.now.world (watched_here here.entry)) }
     {
-        self.look_if_idle(alloc, subject, kernel, at, marks)?;
-        self.note_state(alloc, subject, kernel, at)?;
+        self.look_if_idle(kernel, here, marks)?;
+        self.note_state(kernel, here)?;
         Ok(())
     }
 
@@ -382,31 +349,27 @@ impl Search {
     }
 
     /// Goes on to examine a state, in which `from` is, where all events but the last were tried: tries that one, and
-    /// looks whether the state is a deadlock, and whether it breaks a sentence.
+    /// checks whether the state is a deadlock, and whether it breaks a sentence.
     fn finish<'a>(
         &mut self,
-        alloc: Global,
-        subject: &SearchSubject<'a>,
         from: &Kernel<Vm<'a>>,
         kernel: &mut Kernel<Vm<'a>>,
-        at: &ExaminedState,
+        here: Examination<'_, 'a>,
         marks: StateMarks,
         last: usize,
     ) -> Result<(), AllocError>
         requires last { length self.old.tries.items ≤ last + 1 }
-        requires ready { CanStep (asked_of subject.now) from.now }
-        requires state { IsStateFor (asked_of subject.now) at.now }
-        requires trying { IsTrying (asked_of subject.now) from.now.world (watched_in subject.now.question.now at.now)
-            marks last self.old }
-        requires over { IsKernelOf (asked_of subject.now) kernel.old }
+        requires ready { CanStep (asked_here here) from.now }
+        requires state { IsStateFor (asked_here here) here.at.now }
+        requires trying { IsTrying (asked_here here) from.now.world (watched_here here) marks last self.old }
+        requires over { IsKernelOf (asked_here here) kernel.old }
         ensures tried { OnOk result
-            (HasTriedOut (asked_of subject.now) self.old self.new from.now.world
-            (watched_in subject.now.question.now at.now)) }
-        ensures over { IsKernelOf (asked_of subject.now) kernel.new }
+            (HasTriedOut (asked_here here.entry) self.old self.new from.now.world (watched_here here.entry)) }
+        ensures over { IsKernelOf (asked_here here.entry) kernel.new }
     {
-        subject.image.keeps_rules();
-        let marks = self.try_last(alloc, subject, from, kernel, at, marks, last)?;
-        self.look_at(alloc, subject, from, at, marks)
+        here.subject.image.keeps_rules();
+        let marks = self.try_last(from, kernel, here, marks, last)?;
+        self.look_at(from, here, marks)
     }
 
     /// The same of a state that is no deadlock, since something was done in it, where no sentence is watched: so the
@@ -414,86 +377,73 @@ impl Search {
     #[tactic(auto, using(crate::proofs::KernelLemmas::ready_over))]
     fn finish_busy<'a>(
         &mut self,
-        alloc: Global,
-        subject: &SearchSubject<'a>,
         kernel: &mut Kernel<Vm<'a>>,
-        at: &ExaminedState,
+        here: Examination<'_, 'a>,
         marks: StateMarks,
         last: usize,
     ) -> Result<(), AllocError>
         requires there { last < length self.old.tries.items }
         requires last { length self.old.tries.items ≤ last + 1 }
         requires busy { marks.idle ≡ false }
-        requires none { subject.now.question.now.monitors.items ≡ [] }
-        requires ready { CanStep (asked_of subject.now) kernel.old }
-        requires state { IsStateFor (asked_of subject.now) at.now }
-        requires trying { IsTrying (asked_of subject.now) kernel.old.world (watched_in subject.now.question.now at.now)
-            marks last self.old }
+        requires none { (asked_here here).question.monitors.items ≡ [] }
+        requires ready { CanStep (asked_here here) kernel.old }
+        requires state { IsStateFor (asked_here here) here.at.now }
+        requires trying { IsTrying (asked_here here) kernel.old.world (watched_here here) marks last self.old }
         ensures tried { OnOk result
-            (HasTriedOut (asked_of subject.now) self.old self.new kernel.old.world
-            (watched_in subject.now.question.now at.now)) }
-        ensures over { IsKernelOf (asked_of subject.now) kernel.new }
+            (HasTriedOut (asked_here here.entry) self.old self.new kernel.old.world (watched_here here.entry)) }
+        ensures over { IsKernelOf (asked_here here.entry) kernel.new }
     {
-        subject.image.keeps_rules();
+        here.subject.image.keeps_rules();
         let mut marks = marks;
-        self.try_at(alloc, subject, kernel, at, &mut marks, last)?;
+        self.try_at(kernel, here, &mut marks, last)?;
         Ok(())
     }
 
-    /// Examines a state, in which `top` is: tries each event in it, and looks whether it is a deadlock, and whether it
-    /// breaks a sentence.
+    /// Examines a state, in which the first kernel is: tries each event in it, and checks whether it is a deadlock, and
+    /// whether it breaks a sentence.
     #[tactic(auto, using(crate::proofs::KernelLemmas::ready_over))]
     fn examine_on<'a>(
         &mut self,
-        alloc: Global,
-        subject: &SearchSubject<'a>,
-        top: &mut Kernel<Vm<'a>>,
-        work: &mut Kernel<Vm<'a>>,
-        at: &ExaminedState,
+        kernels: &mut KernelPair<'a>,
+        here: Examination<'_, 'a>,
     ) -> Result<(), AllocError>
-        requires survey { IsSearch (asked_of subject.now) self.old }
-        requires ready { CanStep (asked_of subject.now) top.old }
-        requires state { IsStateFor (asked_of subject.now) at.now }
-        requires work { IsKernelOf (asked_of subject.now) work.old }
+        requires search { IsSearch (asked_here here) self.old }
+        requires ready { CanStep (asked_here here) kernels.old.top }
+        requires state { IsStateFor (asked_here here) here.at.now }
+        requires work { IsKernelOf (asked_here here) kernels.old.work }
         ensures tried { OnOk result
-            (HasTriedOut (asked_of subject.now) self.old self.new top.old.world
-            (watched_in subject.now.question.now at.now)) }
-        ensures top { IsKernelOf (asked_of subject.now) top.new }
-        ensures work { IsKernelOf (asked_of subject.now) work.new }
+            (HasTriedOut (asked_here here.entry) self.old self.new kernels.old.top.world (watched_here here.entry)) }
+        ensures kernels { AreKernelsOf (asked_here here.entry) kernels.new }
     {
         let end = self.tries.len();
         let last = end.saturating_sub(1);
-        let marks = self.try_before(alloc, subject, top, work, at, last)?;
-        let busy = self.is_busy(subject, marks, last);
+        let marks = self.try_before(&kernels.top, &mut kernels.work, here, last)?;
+        let busy = self.is_busy(here.subject, marks, last);
         if busy {
-            return self.finish_busy(alloc, subject, top, at, marks, last);
+            return self.finish_busy(&mut kernels.top, here, marks, last);
         }
-        self.finish(alloc, subject, top, work, at, marks, last)
+        self.finish(&kernels.top, &mut kernels.work, here, marks, last)
     }
 
-    /// Examines the state at a place, with a kernel that is put into the state and one on which events are tried.
+    /// Examines the state at a place.
     pub fn examine<'a>(
         &mut self,
-        alloc: Global,
         subject: &SearchSubject<'a>,
-        top: &mut Kernel<Vm<'a>>,
-        work: &mut Kernel<Vm<'a>>,
+        kernels: &mut KernelPair<'a>,
         state: u32,
     ) -> Result<(), AllocError>
-        requires survey { IsSearch (asked_of subject.now) self.old }
+        requires search { IsSearch (asked_of subject.now) self.old }
         requires there { state < length self.old.seen.rows }
-        requires top { IsKernelOf (asked_of subject.now) top.old }
-        requires work { IsKernelOf (asked_of subject.now) work.old }
+        requires kernels { AreKernelsOf (asked_of subject.now) kernels.old }
         ensures examined { OnOk result (HasExamined (asked_of subject.now) self.old self.new state) }
-        ensures top { IsKernelOf (asked_of subject.now) top.new }
-        ensures work { IsKernelOf (asked_of subject.now) work.new }
+        ensures kernels { AreKernelsOf (asked_of subject.now) kernels.new }
     {
-        let at = self.examined(alloc, subject, state)?;
-        if !self.stand_at(alloc, subject, work, top, &at)? {
+        let at = self.examined(subject, state)?;
+        if !self.stand_at(subject, &kernels.work, &mut kernels.top, &at)? {
             self.sure = false;
-            self.edges.give_up(alloc);
+            self.edges.give_up(self.alloc);
             return Ok(());
         }
-        self.examine_on(alloc, subject, top, work, &at)
+        self.examine_on(kernels, Examination { subject, at: &at })
     }
 }

@@ -64,11 +64,11 @@ pub struct Report {
 }
 
 /// The table of values, where the search stopped at a limit; none where there is no memory for it.
-fn table(alloc: Global, survey: &Search, ending: Ending) -> Vec<Variety> {
+fn table(alloc: Global, search: &Search, ending: Ending) -> Vec<Variety> {
     match ending {
         Ending::Complete | Ending::Found => Vec::new(alloc),
         Ending::StateLimit | Ending::TimeLimit | Ending::OutOfMemory => {
-            match survey.varieties(alloc) {
+            match search.varieties() {
                 Ok(table) => table,
                 Err(_) => Vec::new(alloc),
             }
@@ -157,7 +157,7 @@ fn is_open(question: &Question, ending: Ending, candidates: &[Finding]) -> bool
 fn findings_of<W: SearchWatcher>(
     alloc: Global,
     subject: &SearchSubject<'_>,
-    survey: &mut Search,
+    search: &mut Search,
     ending: Ending,
     watcher: &mut W,
 ) -> Result<SearchFindings, AllocError>
@@ -165,13 +165,13 @@ fn findings_of<W: SearchWatcher>(
     ensures stuck { IfOk result (λ found. found.stuck_search ≢ StuckSearch.Skipped → ending ≡ Ending.Complete) }
 {
     let question = subject.question;
-    let candidates = asked_for(alloc, question, survey.take_candidates(alloc)?)?;
+    let candidates = asked_for(alloc, question, search.take_candidates()?)?;
     let goes_on = is_open(question, ending, &candidates);
     let findings = confirmed(alloc, subject, candidates)?;
     if !goes_on {
         return Ok(without_stuck(findings, StuckSearch::Skipped));
     }
-    let Ok(more) = suspected(alloc, survey, subject.image.system(), question) else {
+    let Ok(more) = suspected(alloc, search, subject.image.system(), question) else {
         let limit = SearchLimit::Memory;
         return Ok(without_stuck(findings, StuckSearch::Stopped(limit)));
     };
@@ -179,13 +179,13 @@ fn findings_of<W: SearchWatcher>(
 }
 
 /// Whether a search that ended so shows that nothing is found along any schedule.
-fn shows_all(survey: &Search, question: &Question, ending: Ending) -> bool
+fn shows_all(search: &Search, question: &Question, ending: Ending) -> bool
     ensures ending { IsTrue result → ending ≡ Ending.Complete }
-    ensures sure { IsTrue result → survey.now.sure ≡ true }
+    ensures sure { IsTrue result → search.now.sure ≡ true }
     ensures after { IsTrue result → question.now.after.items ≡ [] }
 {
     match ending {
-        Ending::Complete => survey.sure && question.after.is_empty(),
+        Ending::Complete => search.sure && question.after.is_empty(),
         Ending::Found | Ending::StateLimit | Ending::TimeLimit | Ending::OutOfMemory => false,
     }
 }
@@ -194,30 +194,30 @@ fn shows_all(survey: &Search, question: &Question, ending: Ending) -> bool
 fn make_report<W: SearchWatcher>(
     alloc: Global,
     subject: &SearchSubject<'_>,
-    survey: &mut Search,
+    search: &mut Search,
     ending: Ending,
     watcher: &mut W,
 ) -> Result<Report, AllocError>
-    requires holds { ending ≡ Ending.Complete → survey.old.sure ≡ true →
+    requires holds { ending ≡ Ending.Complete → search.old.sure ≡ true →
         subject.now.question.now.after.items ≡ [] → NoneIsFound (asked_of subject.now) }
     ensures findings { IfOk result (λ r. AreFound (asked_of subject.now) r.findings.items) }
     ensures holds { IfOk result (λ r. r.holds ≡ true → NoneIsFound (asked_of subject.now)) }
     ensures stuck { IfOk result (λ r. r.stuck_search ≢ StuckSearch.Skipped → r.ending ≡ Ending.Complete) }
 {
-    let holds = shows_all(survey, subject.question, ending);
-    let found = findings_of(alloc, subject, survey, ending, watcher)?;
+    let holds = shows_all(search, subject.question, ending);
+    let found = findings_of(alloc, subject, search, ending, watcher)?;
     Ok(Report {
         findings: found.findings,
         ending,
         holds,
         stuck_search: found.stuck_search,
-        states: survey.seen.len(),
-        events: survey.notes.events,
-        depth: survey.depth(),
+        states: search.seen.len(),
+        events: search.notes.events,
+        depth: search.depth(),
         waits: found.waits,
-        coverage: survey.take_coverage(alloc),
-        premises: survey.take_premises(alloc),
-        varieties: table(alloc, survey, ending),
+        coverage: search.take_coverage(),
+        premises: search.take_premises(),
+        varieties: table(alloc, search, ending),
     })
 }
 
@@ -230,24 +230,23 @@ pub fn start_search(
 ) -> Result<Search, AllocError>
     ensures { IfOk result (IsBegun (asked_of subject.now)) }
 {
-    let mut survey = Search::new(alloc, outs, subject)?;
-    survey.begin(alloc, subject)?;
-    Ok(survey)
+    let mut search = Search::new(alloc, outs, subject)?;
+    search.begin(subject)?;
+    Ok(search)
 }
 
 /// Runs a search to its end: why it ended.
 pub fn run_search<W: SearchWatcher, C: Crew>(
-    alloc: Global,
     crew: &C,
-    survey: &mut Search,
+    search: &mut Search,
     subject: &SearchSubject<'_>,
     watcher: &mut W,
 ) -> Ending
-    requires begun { IsBegun (asked_of subject.now) survey.old }
+    requires begun { IsBegun (asked_of subject.now) search.old }
     requires crew { C.can_work crew.now }
-    ensures { HasEnded (asked_of subject.now) survey.new result }
+    ensures { HasEnded (asked_of subject.now) search.new result }
 {
-    match survey.run(alloc, crew, subject, watcher) {
+    match search.run(crew, subject, watcher) {
         Ok(ending) => ending,
         Err(_) => Ending::OutOfMemory,
     }
@@ -267,12 +266,12 @@ fn explore_written<W: SearchWatcher, C: Crew>(
     ensures stuck { IfOk result (λ found. IfSome found
         (λ r. r.stuck_search ≢ StuckSearch.Skipped → r.ending ≡ Ending.Complete)) }
 {
-    let mut survey = start_search(alloc, true, subject)?;
-    let ending = run_search(alloc, crew, &mut survey, subject, watcher);
-    if survey.unwritten {
+    let mut search = start_search(alloc, true, subject)?;
+    let ending = run_search(crew, &mut search, subject, watcher);
+    if search.unwritten {
         return Ok(None);
     }
-    let report = make_report(alloc, subject, &mut survey, ending, watcher)?;
+    let report = make_report(alloc, subject, &mut search, ending, watcher)?;
     Ok(Some(report))
 }
 
@@ -288,9 +287,9 @@ fn explore_plainly<W: SearchWatcher, C: Crew>(
     ensures holds { IfOk result (λ r. r.holds ≡ true → NoneIsFound (asked_of subject.now)) }
     ensures stuck { IfOk result (λ r. r.stuck_search ≢ StuckSearch.Skipped → r.ending ≡ Ending.Complete) }
 {
-    let mut survey = start_search(alloc, false, subject)?;
-    let ending = run_search(alloc, crew, &mut survey, subject, watcher);
-    make_report(alloc, subject, &mut survey, ending, watcher)
+    let mut search = start_search(alloc, false, subject)?;
+    let ending = run_search(crew, &mut search, subject, watcher);
+    make_report(alloc, subject, &mut search, ending, watcher)
 }
 
 /// Explores the schedules of an image in one search; in another one too, where a reply left an out place as it was.

@@ -47,8 +47,10 @@ struct Candidate {
 /// What was noted.
 #[derive(Drop)]
 pub struct Notes {
+    /// Where its memory comes from.
+    alloc: Global,
     candidates: Vec<Candidate>,
-    /// What is known of bodies that may go on for ever.
+    /// What is known of bodies that may go on forever.
     pub outlooks: Outlooks,
     pub coverage: Coverage,
     /// For each monitor of the question, whether what its sentence speaks of has come.
@@ -100,7 +102,7 @@ impl Path<'_> {
     }
 }
 
-/// Whether a search goes on after such a finding though only the first is asked for: a body that goes on for ever hides
+/// Whether a search goes on after such a finding though only the first is asked for: a body that goes on forever hides
 /// nothing else.
 pub fn is_beside(found: &Finding) -> bool
     ensures { result ≡ goes_on_beside found.now.kind }
@@ -205,6 +207,7 @@ impl Notes {
         ensures events { result.events ≡ 0 }
     {
         Notes {
+            alloc,
             candidates: Vec::new(alloc),
             outlooks: Outlooks::new(alloc),
             coverage: Coverage::nothing(alloc),
@@ -213,9 +216,9 @@ impl Notes {
         }
     }
 
-    /// Only what is known of bodies that may go on for ever is noted, and nothing can be covered. `AllocError` if
+    /// Only what is known of bodies that may go on forever is noted, and nothing can be covered. `AllocError` if
     /// memory runs out.
-    pub fn again(&self, alloc: Global) -> Result<Notes, AllocError>
+    pub fn again(&self) -> Result<Notes, AllocError>
         ensures candidates { IfOk result (λ notes. notes.candidates.items ≡ []) }
         ensures known { IfOk result (λ notes. notes.outlooks.known.items ≡ self.now.outlooks.known.items) }
         ensures unknown { IfOk result (λ notes. notes.outlooks.unknown.items ≡ self.now.outlooks.unknown.items) }
@@ -223,8 +226,8 @@ impl Notes {
         ensures premises { IfOk result (λ notes. notes.premises.items ≡ []) }
         ensures events { IfOk result (λ notes. notes.events ≡ 0) }
     {
-        let mut notes = Notes::new(alloc);
-        notes.outlooks = self.outlooks.again(alloc)?;
+        let mut notes = Notes::new(self.alloc);
+        notes.outlooks = self.outlooks.again(self.alloc)?;
         Ok(notes)
     }
 
@@ -234,7 +237,7 @@ impl Notes {
         self.candidates.iter().any(|known| is_of_kind(known, found.kind, found.site, other.broken))
     }
 
-    /// Whether other notes have no candidate of a kind of its own, and nothing new about bodies that go on for ever.
+    /// Whether other notes have no candidate of a kind of its own, and nothing new about bodies that go on forever.
     pub fn knows(&self, other: &Notes) -> bool {
         !other.outlooks.changed && other.candidates.iter().all(|found| self.has_alike(found))
     }
@@ -251,36 +254,35 @@ impl Notes {
     /// Makes room for what is done in the system of a kernel. `AllocError` if memory runs out.
     pub fn cover(
         &mut self,
-        alloc: Global,
         subject: &SearchSubject<'_>,
         kernel: &Kernel<Vm<'_>>,
     ) -> Result<(), AllocError> {
-        self.coverage = Coverage::new(alloc, kernel.tables(), subject.image.code())?;
-        self.premises = vec![in alloc; false; subject.question.monitors.len()]?;
+        self.coverage = Coverage::new(self.alloc, kernel.tables(), subject.image.code())?;
+        self.premises = vec![in self.alloc; false; subject.question.monitors.len()]?;
         Ok(())
     }
 
     /// The candidates, which are forgotten. `AllocError` if memory runs out.
-    pub fn take_candidates(&mut self, alloc: Global) -> Result<Vec<Finding>, AllocError> {
-        let mut findings = Vec::new(alloc);
-        for candidate in mem::replace(&mut self.candidates, Vec::new(alloc)) {
+    pub fn take_candidates(&mut self) -> Result<Vec<Finding>, AllocError> {
+        let mut findings = Vec::new(self.alloc);
+        for candidate in mem::replace(&mut self.candidates, Vec::new(self.alloc)) {
             findings.push(candidate.finding)?;
         }
         Ok(findings)
     }
 
     /// What was ever done, which is forgotten.
-    pub fn take_coverage(&mut self, alloc: Global) -> Coverage
+    pub fn take_coverage(&mut self) -> Coverage
         ensures { result ≡ self.old.coverage }
     {
-        mem::replace(&mut self.coverage, Coverage::nothing(alloc))
+        mem::replace(&mut self.coverage, Coverage::nothing(self.alloc))
     }
 
     /// For each monitor, whether what its sentence speaks of has come, which is forgotten.
-    pub fn take_premises(&mut self, alloc: Global) -> Vec<bool>
+    pub fn take_premises(&mut self) -> Vec<bool>
         ensures { result.items ≡ self.old.premises.items }
     {
-        mem::replace(&mut self.premises, Vec::new(alloc))
+        mem::replace(&mut self.premises, Vec::new(self.alloc))
     }
 
     /// Notes of which monitors these lines tell what their sentences speak of.
@@ -314,7 +316,6 @@ impl Notes {
     /// runs out.
     fn note(
         &mut self,
-        alloc: Global,
         path: Path<'_>,
         kind: FindingKind,
         site: Option<CallSite>,
@@ -327,7 +328,7 @@ impl Notes {
         if is_known {
             return Ok(());
         }
-        let steps = path.events(alloc)?;
+        let steps = path.events(self.alloc)?;
         let finding = Finding { steps, kind, site };
         self.candidates.push(Candidate { finding, broken })?;
         Ok(())
@@ -337,19 +338,17 @@ impl Notes {
     /// if memory runs out.
     pub fn note_kind(
         &mut self,
-        alloc: Global,
         path: Path<'_>,
         kind: FindingKind,
         site: Option<CallSite>,
     ) -> Result<(), AllocError> {
-        self.note(alloc, path, kind, site, None)
+        self.note(path, kind, site, None)
     }
 
     /// Notes a line that a kernel has just told at this place, by an event that made this call, if it made one, or by
     /// setup: whether it must never be told.
     fn note_line(
         &mut self,
-        alloc: Global,
         subject: &SearchSubject<'_>,
         kernel: &Kernel<Vm<'_>>,
         path: Path<'_>,
@@ -365,7 +364,7 @@ impl Notes {
         let bad = is_bad(kernel, subject.image.system(), subject.question, line);
         if bad {
             let broken = broken_by(subject, kernel, line);
-            self.note(alloc, path, FindingKind::Line(place), site, broken)?;
+            self.note(path, FindingKind::Line(place), site, broken)?;
         }
         Ok(bad)
     }
@@ -373,7 +372,6 @@ impl Notes {
     /// Notes what each line tells that a kernel has just told: whether one of them must never be told.
     fn note_each(
         &mut self,
-        alloc: Global,
         subject: &SearchSubject<'_>,
         kernel: &Kernel<Vm<'_>>,
         path: Path<'_>,
@@ -385,7 +383,7 @@ impl Notes {
         let lines = kernel.lines();
         let mut found = false;
         for place in 0..lines.len() {
-            if self.note_line(alloc, subject, kernel, path, made, place, &lines[place])? {
+            if self.note_line(subject, kernel, path, made, place, &lines[place])? {
                 found = true;
             }
         }
@@ -396,7 +394,6 @@ impl Notes {
     /// whether one of them must never be told. `AllocError` if memory runs out.
     pub fn note_lines(
         &mut self,
-        alloc: Global,
         subject: &SearchSubject<'_>,
         kernel: &Kernel<Vm<'_>>,
         path: Path<'_>,
@@ -406,14 +403,13 @@ impl Notes {
             subject.now.question.now kernel.now.world) kernel.now.lines) }
     {
         self.note_premises(&subject.question.monitors, kernel.lines());
-        self.note_each(alloc, subject, kernel, path, made)
+        self.note_each(subject, kernel, path, made)
     }
 
     /// Notes that one of the lines of a path's last event breaks the sentence of this number, if one does: whether one
     /// does.
     fn note_breach(
         &mut self,
-        alloc: Global,
         lines: &[Line],
         path: Path<'_>,
         number: usize,
@@ -429,7 +425,7 @@ impl Notes {
             monitor: number,
             breach,
         };
-        self.note_kind(alloc, path, FindingKind::Breach(breached), made)?;
+        self.note_kind(path, FindingKind::Breach(breached), made)?;
         Ok(true)
     }
 
@@ -437,7 +433,6 @@ impl Notes {
     /// lines breaks: whether there is one. `AllocError` if memory runs out.
     pub fn note_breaches(
         &mut self,
-        alloc: Global,
         lines: &[Line],
         path: Path<'_>,
         monitors: &[Monitor],
@@ -447,7 +442,7 @@ impl Notes {
     {
         let mut found = false;
         for number in 0..monitors.len() {
-            if self.note_breach(alloc, lines, path, number, &monitors[number], made)? {
+            if self.note_breach(lines, path, number, &monitors[number], made)? {
                 found = true;
             }
         }
@@ -457,7 +452,6 @@ impl Notes {
     /// Notes that a state after a path breaks the sentence of this number, if it does: whether it does.
     fn note_broken(
         &mut self,
-        alloc: Global,
         path: Path<'_>,
         state: &KernelState,
         number: usize,
@@ -468,7 +462,7 @@ impl Notes {
         if !monitor.is_broken_in(state) {
             return Ok(false);
         }
-        self.note_kind(alloc, path, FindingKind::State(number), None)?;
+        self.note_kind(path, FindingKind::State(number), None)?;
         Ok(true)
     }
 
@@ -476,7 +470,6 @@ impl Notes {
     /// memory runs out.
     pub fn note_state(
         &mut self,
-        alloc: Global,
         path: Path<'_>,
         state: &KernelState,
         monitors: &[Monitor],
@@ -485,7 +478,7 @@ impl Notes {
     {
         let mut found = false;
         for number in 0..monitors.len() {
-            if self.note_broken(alloc, path, state, number, &monitors[number])? {
+            if self.note_broken(path, state, number, &monitors[number])? {
                 found = true;
             }
         }

@@ -1,4 +1,4 @@
-//! Which bodies go on for ever, as far as known: what was found of the contexts at which stretches were cut last.
+//! Which bodies go on forever, as far as known: what was found of the contexts at which stretches were cut last.
 ghost use Rattle.std.specs.Prelude.{◌<◌, ◌≡◌, [], IfOk, false, length};
 ghost use Rattle.fmp_code.specs.Vms.{IsContext};
 
@@ -18,7 +18,7 @@ struct Known {
     outlook: Outlook,
 }
 
-/// What is known of bodies that may go on for ever.
+/// What is known of bodies that may go on forever.
 #[derive(Drop)]
 pub struct Outlooks {
     known: Vec<Known>,

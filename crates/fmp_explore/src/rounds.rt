@@ -1,17 +1,16 @@
 //! How a search goes on: it examines the next state; or it enters a round of slices, while threads examine those of the
 //! next round.
 ghost use Rattle.std.specs.Prelude.{◌≡◌, ◌+◌, ◌<◌, ◌≤◌, [], IfOk, OnOk, length};
-ghost use Rattle.fmp_explore.specs.Searching.{IsKernelOf, IsSearch, IsSearching};
+ghost use Rattle.fmp_explore.specs.Searching.{AreKernelsOf, IsSearch, IsSearching};
 ghost use Rattle.fmp_explore.specs.Slices.{AreReady, AreSlices, AreTakenOver, IsInRound, IsSlice, IsTaken};
 ghost use Rattle.fmp_explore.specs.declared.searches.Search.{Search};
 ghost use Rattle.fmp_witness.specs.Asked.{Asked, asked_of};
 
 use crate::crew::Crew;
+use crate::kernels::KernelPair;
 use crate::searches::Search;
 use crate::searching::SearchWatcher;
-use crate::slices::{Slice, Span, examined};
-use fmp_code::Vm;
-use fmp_kernel::Kernel;
+use crate::slices::{MadeSlice, Slice, Span, examined};
 use fmp_witness::SearchSubject;
 use std::alloc::{AllocError, Global};
 use std::mem;
@@ -37,7 +36,7 @@ pub struct Progress {
     /// The place of the state that is examined next.
     pub next: u32,
     /// The slices of the next states, which are examined and not entered yet.
-    pub pending: Vec<Result<Slice, AllocError>>,
+    pub pending: Vec<MadeSlice>,
     /// The place after the states of these slices.
     pending_end: u32,
     /// How many states there were when it was told last how far the search has come.
@@ -80,7 +79,7 @@ impl Progress {
     }
 
     /// Takes the slices that are not entered yet.
-    fn take_pending(&mut self, alloc: Global) -> Vec<Result<Slice, AllocError>>
+    fn take_pending(&mut self, alloc: Global) -> Vec<MadeSlice>
         ensures next { self.new.next ≡ self.old.next }
         ensures pending { result.items ≡ self.old.pending.items }
     {
@@ -88,7 +87,7 @@ impl Progress {
     }
 
     /// These slices, of the states of a span, are entered next, if all before them were entered.
-    fn put_pending(&mut self, alloc: Global, slices: Vec<Result<Slice, AllocError>>, span: Span)
+    fn put_pending(&mut self, alloc: Global, slices: Vec<MadeSlice>, span: Span)
         ensures next { self.new.next ≡ self.old.next }
         ensures pending { (asked : Asked) (whole : Search) → AreSlices asked whole slices.items →
             AreSlices asked whole self.new.pending.items }
@@ -103,6 +102,15 @@ impl Progress {
     }
 }
 
+/// The slices of a round whose states were examined.
+#[derive(Drop)]
+struct ExaminedSlices {
+    /// Those that the crew examined. `AllocError` if memory ran out for all of them.
+    others: Result<Vec<MadeSlice>, AllocError>,
+    /// The one that the search examined itself. `AllocError` if memory ran out before.
+    own: Result<MadeSlice, AllocError>,
+}
+
 /// The place after this one, if there is one; else this one.
 fn place_after(place: u32) -> u32
     ensures { result ≤ place + 1 }
@@ -111,7 +119,7 @@ fn place_after(place: u32) -> u32
 }
 
 /// Takes the last of the states that are handed over. `AllocError` if there was no memory for them, or there are none.
-fn take_last(taken: &mut Vec<Result<Slice, AllocError>>) -> Result<Slice, AllocError>
+fn take_last(taken: &mut Vec<MadeSlice>) -> MadeSlice
     ensures taken { (asked : Asked) (whole : Search) → AreTakenOver asked whole taken.old.items →
         AreTakenOver asked whole taken.new.items }
     ensures last { (asked : Asked) (whole : Search) → AreTakenOver asked whole taken.old.items →
@@ -122,9 +130,9 @@ fn take_last(taken: &mut Vec<Result<Slice, AllocError>>) -> Result<Slice, AllocE
 
 /// Slices, and one more. `AllocError` if memory ran out for all of them, or runs out.
 fn with_last(
-    slices: Result<Vec<Result<Slice, AllocError>>, AllocError>,
-    last: Result<Slice, AllocError>,
-) -> Result<Vec<Result<Slice, AllocError>>, AllocError>
+    slices: Result<Vec<MadeSlice>, AllocError>,
+    last: MadeSlice,
+) -> Result<Vec<MadeSlice>, AllocError>
     ensures { (asked : Asked) (whole : Search) → IfOk slices (λ made. AreSlices asked whole made.items) →
         IfOk last (IsSlice asked whole) → IfOk result (λ made. AreSlices asked whole made.items) }
 {
@@ -175,24 +183,20 @@ impl Search {
     /// Examines the next state.
     fn go_on<'a, W: SearchWatcher>(
         &mut self,
-        alloc: Global,
         subject: &SearchSubject<'a>,
-        top: &mut Kernel<Vm<'a>>,
-        work: &mut Kernel<Vm<'a>>,
+        kernels: &mut KernelPair<'a>,
         watcher: &mut W,
         progress: &mut Progress,
     ) -> Result<(), AllocError>
         requires searching { IsSearching (asked_of subject.now) progress.old.next self.old }
         requires there { progress.old.next < length self.old.seen.rows }
-        requires top { IsKernelOf (asked_of subject.now) top.old }
-        requires work { IsKernelOf (asked_of subject.now) work.old }
+        requires kernels { AreKernelsOf (asked_of subject.now) kernels.old }
         requires pending { AreSlices (asked_of subject.now) self.old progress.old.pending.items }
         ensures searching { OnOk result (IsSearching (asked_of subject.now) progress.new.next self.new) }
         ensures pending { OnOk result (AreSlices (asked_of subject.now) self.new progress.new.pending.items) }
-        ensures top { IsKernelOf (asked_of subject.now) top.new }
-        ensures work { IsKernelOf (asked_of subject.now) work.new }
+        ensures kernels { AreKernelsOf (asked_of subject.now) kernels.new }
     {
-        self.examine(alloc, subject, top, work, progress.next)?;
+        self.examine(subject, kernels, progress.next)?;
         progress.next = place_after(progress.next);
         progress.told = self.tell(watcher, progress.told, progress.next as usize);
         Ok(())
@@ -201,7 +205,6 @@ impl Search {
     /// Enters a slice, if its states are the next ones and it can be entered: whether it was.
     fn enter_slice<W: SearchWatcher>(
         &mut self,
-        alloc: Global,
         subject: &SearchSubject<'_>,
         slice: &Slice,
         watcher: &mut W,
@@ -217,7 +220,7 @@ impl Search {
         if !self.can_enter(subject, slice) {
             return Ok(false);
         }
-        progress.told = self.enter(alloc, slice, watcher, progress.told)?;
+        progress.told = self.enter(slice, watcher, progress.told)?;
         progress.next = slice.span.end;
         Ok(true)
     }
@@ -225,9 +228,8 @@ impl Search {
     /// The same of a slice for which there may have been no memory.
     fn enter_made<W: SearchWatcher>(
         &mut self,
-        alloc: Global,
         subject: &SearchSubject<'_>,
-        made: &Result<Slice, AllocError>,
+        made: &MadeSlice,
         watcher: &mut W,
         progress: &mut Progress,
     ) -> Result<bool, AllocError>
@@ -236,7 +238,7 @@ impl Search {
             OnOk result (IsInRound (asked_of subject.now) whole progress.new.next self.new) }
     {
         match made {
-            Ok(slice) => self.enter_slice(alloc, subject, slice, watcher, progress),
+            Ok(slice) => self.enter_slice(subject, slice, watcher, progress),
             Err(_) => Ok(false),
         }
     }
@@ -244,9 +246,8 @@ impl Search {
     /// Enters slices in order, up to the first that cannot be entered.
     fn enter_all<W: SearchWatcher>(
         &mut self,
-        alloc: Global,
         subject: &SearchSubject<'_>,
-        slices: &[Result<Slice, AllocError>],
+        slices: &[MadeSlice],
         watcher: &mut W,
         progress: &mut Progress,
     ) -> Result<(), AllocError>
@@ -255,7 +256,7 @@ impl Search {
             OnOk result (IsInRound (asked_of subject.now) whole progress.new.next self.new) }
     {
         for k in 0..slices.len() {
-            if !self.enter_made(alloc, subject, &slices[k], watcher, progress)? {
+            if !self.enter_made(subject, &slices[k], watcher, progress)? {
                 progress.put_off();
                 return Ok(());
             }
@@ -264,87 +265,95 @@ impl Search {
         Ok(())
     }
 
-    /// Enters slices, and then examines states that are handed over: their slice then.
-    fn enter_first<W: SearchWatcher>(
+    /// Enters the slices that are pending, in order, up to the first that cannot be entered. None is pending then.
+    fn enter_round<W: SearchWatcher>(
         &mut self,
-        alloc: Global,
         subject: &SearchSubject<'_>,
-        pending: &[Result<Slice, AllocError>],
-        own: Result<Slice, AllocError>,
         watcher: &mut W,
         progress: &mut Progress,
-    ) -> Result<Result<Slice, AllocError>, AllocError>
+    ) -> Result<(), AllocError>
+        ensures { (whole : Search) → AreSlices (asked_of subject.now) whole progress.old.pending.items →
+            IsInRound (asked_of subject.now) whole progress.old.next self.old →
+            OnOk result (IsInRound (asked_of subject.now) whole progress.new.next self.new) }
+    {
+        let pending = progress.take_pending(self.alloc);
+        self.enter_all(subject, &pending, watcher, progress)
+    }
+
+    /// The same, and then examines states that are handed over: their slice then.
+    fn enter_first<W: SearchWatcher>(
+        &mut self,
+        subject: &SearchSubject<'_>,
+        own: MadeSlice,
+        watcher: &mut W,
+        progress: &mut Progress,
+    ) -> Result<MadeSlice, AllocError>
         requires own { IfOk own (λ slice. IsSearch (asked_of subject.now) slice.search) }
-        ensures entered { (whole : Search) → AreSlices (asked_of subject.now) whole pending.now →
+        ensures entered { (whole : Search) → AreSlices (asked_of subject.now) whole progress.old.pending.items →
             IsInRound (asked_of subject.now) whole progress.old.next self.old →
             OnOk result (IsInRound (asked_of subject.now) whole progress.new.next self.new) }
         ensures own { (whole : Search) → IfOk own (IsTaken (asked_of subject.now) whole) →
             IfOk result (λ made. IfOk made (IsSlice (asked_of subject.now) whole)) }
     {
-        self.enter_all(alloc, subject, pending, watcher, progress)?;
-        Ok(examined(alloc, subject, own))
+        self.enter_round(subject, watcher, progress)?;
+        Ok(examined(subject, own))
     }
 
-    /// Enters slices, and then examines the states of one that is handed over, while the crew examines the others.
-    /// Gives the slices of the others, `AllocError` if memory ran out for all of them, and the slice of that one;
-    /// `AllocError` if memory ran out while slices were entered.
+    /// Enters the slices that are pending, and then examines the states of one that is handed over, while the crew
+    /// examines the others.
     fn enter_with_crew<W: SearchWatcher, C: Crew>(
         &mut self,
-        alloc: Global,
         crew: &C,
         subject: &SearchSubject<'_>,
-        pending: &[Result<Slice, AllocError>],
-        taken: Vec<Result<Slice, AllocError>>,
-        own: &mut Result<Slice, AllocError>,
+        taken: Vec<MadeSlice>,
+        own: &mut MadeSlice,
         watcher: &mut W,
         progress: &mut Progress,
-    ) -> (
-        Result<Vec<Result<Slice, AllocError>>, AllocError>,
-        Result<Result<Slice, AllocError>, AllocError>,
-    )
+    ) -> ExaminedSlices
         requires crew { C.can_work crew.now }
         requires taken { AreReady (asked_of subject.now) taken.items }
         requires own { IfOk own.old (λ slice. IsSearch (asked_of subject.now) slice.search) }
-        ensures entered { (whole : Search) → AreSlices (asked_of subject.now) whole pending.now →
+        ensures entered { (whole : Search) → AreSlices (asked_of subject.now) whole progress.old.pending.items →
             IsInRound (asked_of subject.now) whole progress.old.next self.old →
-            OnOk result.1 (IsInRound (asked_of subject.now) whole progress.new.next self.new) }
+            OnOk result.own (IsInRound (asked_of subject.now) whole progress.new.next self.new) }
         ensures slices { (whole : Search) → AreTakenOver (asked_of subject.now) whole taken.items →
-            IfOk result.0 (λ slices. AreSlices (asked_of subject.now) whole slices.items) }
+            IfOk result.others (λ slices. AreSlices (asked_of subject.now) whole slices.items) }
         ensures own { (whole : Search) → IfOk own.old (IsTaken (asked_of subject.now) whole) →
-            IfOk result.1 (λ made. IfOk made (IsSlice (asked_of subject.now) whole)) }
+            IfOk result.own (λ made. IfOk made (IsSlice (asked_of subject.now) whole)) }
     {
-        let survey = self;
-        let mut enter = || -> Result<Result<Slice, AllocError>, AllocError>
+        let alloc = self.alloc;
+        let search = self;
+        let mut enter = || -> Result<MadeSlice, AllocError>
             requires { IfOk own.now (λ slice. IsSearch (asked_of subject.now) slice.search) }
-            ensures entered { (whole : Search) → AreSlices (asked_of subject.entry.now) whole pending.entry.now →
-                IsInRound (asked_of subject.entry.now) whole progress.entry.now.next survey.entry.now →
-                OnOk result (IsInRound (asked_of subject.entry.now) whole progress.exit.now.next survey.exit.now) }
+            ensures entered { (whole : Search) →
+                AreSlices (asked_of subject.entry.now) whole progress.entry.now.pending.items →
+                IsInRound (asked_of subject.entry.now) whole progress.entry.now.next search.entry.now →
+                OnOk result (IsInRound (asked_of subject.entry.now) whole progress.exit.now.next search.exit.now) }
             ensures own { (whole : Search) → IfOk own.entry.now (IsTaken (asked_of subject.entry.now) whole) →
                 IfOk result (λ made. IfOk made (IsSlice (asked_of subject.entry.now) whole)) }
         {
             let own = mem::replace(own, Err(AllocError));
-            survey.enter_first(alloc, subject, pending, own, watcher, progress)
+            search.enter_first(subject, own, watcher, progress)
         };
-        crew.examine_beside(alloc, subject, taken, &mut enter)
+        let (others, made) = crew.examine_beside(alloc, subject, taken, &mut enter);
+        ExaminedSlices { others, own: made }
     }
 
-    /// Enters slices, and examines the last of those of the next round, while the crew examines the others. Gives all
-    /// slices of that round, in order.
+    /// Enters the slices that are pending, and examines the last of those of the next round, while the crew examines
+    /// the others. Gives all slices of that round, in order.
     fn enter_beside<W: SearchWatcher, C: Crew>(
         &mut self,
-        alloc: Global,
         crew: &C,
         subject: &SearchSubject<'_>,
-        pending: &[Result<Slice, AllocError>],
-        taken: Vec<Result<Slice, AllocError>>,
-        last: Result<Slice, AllocError>,
+        taken: Vec<MadeSlice>,
+        last: MadeSlice,
         watcher: &mut W,
         progress: &mut Progress,
-    ) -> Result<Vec<Result<Slice, AllocError>>, AllocError>
+    ) -> Result<Vec<MadeSlice>, AllocError>
         requires crew { C.can_work crew.now }
         requires taken { AreReady (asked_of subject.now) taken.items }
         requires last { IfOk last (λ slice. IsSearch (asked_of subject.now) slice.search) }
-        ensures entered { (whole : Search) → AreSlices (asked_of subject.now) whole pending.now →
+        ensures entered { (whole : Search) → AreSlices (asked_of subject.now) whole progress.old.pending.items →
             IsInRound (asked_of subject.now) whole progress.old.next self.old →
             OnOk result (IsInRound (asked_of subject.now) whole progress.new.next self.new) }
         ensures slices { (whole : Search) → AreTakenOver (asked_of subject.now) whole taken.items →
@@ -352,17 +361,15 @@ impl Search {
             IfOk result (λ slices. AreSlices (asked_of subject.now) whole slices.items) }
     {
         let mut own = last;
-        let (slices, made) = self.enter_with_crew(
-            alloc, crew, subject, pending, taken, &mut own, watcher, progress,
-        );
-        with_last(slices, made?)
+        let slices = self.enter_with_crew(crew, subject, taken, &mut own, watcher, progress);
+        let made = slices.own?;
+        with_last(slices.others, made)
     }
 
     /// Enters the slices that are pending, while the states of a span are examined in others. Those that cannot be
     /// entered are left.
     fn go_on_beside<W: SearchWatcher, C: Crew>(
         &mut self,
-        alloc: Global,
         crew: &C,
         subject: &SearchSubject<'_>,
         span: Span,
@@ -376,20 +383,16 @@ impl Search {
         ensures searching { OnOk result (IsSearching (asked_of subject.now) progress.new.next self.new) }
         ensures pending { OnOk result (AreSlices (asked_of subject.now) self.new progress.new.pending.items) }
     {
-        let mut taken = crew.hand_over(alloc, subject, self, span)?;
+        let mut taken = crew.hand_over(self.alloc, subject, self, span)?;
         let last = take_last(&mut taken);
-        let pending = progress.take_pending(alloc);
-        let slices = self.enter_beside(
-            alloc, crew, subject, &pending, taken, last, watcher, progress,
-        )?;
-        progress.put_pending(alloc, slices, span);
+        let slices = self.enter_beside(crew, subject, taken, last, watcher, progress)?;
+        progress.put_pending(self.alloc, slices, span);
         Ok(())
     }
 
     /// Enters the slices that are pending. Those that cannot be entered are left.
     fn enter_pending<W: SearchWatcher>(
         &mut self,
-        alloc: Global,
         subject: &SearchSubject<'_>,
         watcher: &mut W,
         progress: &mut Progress,
@@ -400,24 +403,21 @@ impl Search {
         ensures searching { OnOk result (IsSearching (asked_of subject.now) progress.new.next self.new) }
         ensures pending { OnOk result (AreSlices (asked_of subject.now) self.new progress.new.pending.items) }
     {
-        let pending = progress.take_pending(alloc);
-        self.enter_all(alloc, subject, &pending, watcher, progress)?;
+        self.enter_round(subject, watcher, progress)?;
         let none = Span {
             first: progress.next,
             end: progress.next,
         };
-        progress.put_pending(alloc, Vec::new(alloc), none);
+        progress.put_pending(self.alloc, Vec::new(self.alloc), none);
         Ok(())
     }
 
     /// Examines the next state, or enters the next states and examines others beside that.
     pub fn advance<'a, W: SearchWatcher, C: Crew>(
         &mut self,
-        alloc: Global,
         crew: &C,
         subject: &SearchSubject<'a>,
-        top: &mut Kernel<Vm<'a>>,
-        work: &mut Kernel<Vm<'a>>,
+        kernels: &mut KernelPair<'a>,
         watcher: &mut W,
         progress: &mut Progress,
     ) -> Result<(), AllocError>
@@ -425,20 +425,18 @@ impl Search {
         requires there { progress.old.next < length self.old.seen.rows }
         requires pending { AreSlices (asked_of subject.now) self.old progress.old.pending.items }
         requires crew { C.can_work crew.now }
-        requires top { IsKernelOf (asked_of subject.now) top.old }
-        requires work { IsKernelOf (asked_of subject.now) work.old }
+        requires kernels { AreKernelsOf (asked_of subject.now) kernels.old }
         ensures searching { OnOk result (IsSearching (asked_of subject.now) progress.new.next self.new) }
         ensures pending { OnOk result (AreSlices (asked_of subject.now) self.new progress.new.pending.items) }
-        ensures top { IsKernelOf (asked_of subject.now) top.new }
-        ensures work { IsKernelOf (asked_of subject.now) work.new }
+        ensures kernels { AreKernelsOf (asked_of subject.now) kernels.new }
     {
         let span = self.next_span(subject, crew.jobs(), progress);
         if span.first < span.end {
-            return self.go_on_beside(alloc, crew, subject, span, watcher, progress);
+            return self.go_on_beside(crew, subject, span, watcher, progress);
         }
         if !progress.pending.is_empty() {
-            return self.enter_pending(alloc, subject, watcher, progress);
+            return self.enter_pending(subject, watcher, progress);
         }
-        self.go_on(alloc, subject, top, work, watcher, progress)
+        self.go_on(subject, kernels, watcher, progress)
     }
 }

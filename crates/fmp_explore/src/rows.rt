@@ -95,7 +95,7 @@ fn came_in(numbers: &[u32], limited: bool) -> usize
 }
 
 /// The numbers after those of the fields.
-fn behind_fields(numbers: &[u32], fields: usize) -> &[u32] {
+fn after_fields(numbers: &[u32], fields: usize) -> &[u32] {
     &numbers[fields.min(numbers.len())..]
 }
 
@@ -245,7 +245,7 @@ impl Rows {
         self.exact = unpack_checked(row, &self.first, &mut self.told)?;
         let question = subject.question;
         let came = came_in(&self.told, question.interrupts.is_some());
-        let kept = behind_fields(&self.told, self.fields.list().len());
+        let kept = after_fields(&self.told, self.fields.list().len());
         let monitors = monitors_told(alloc, &question.monitors, kept)?;
         Ok(ExaminedState {
             state,

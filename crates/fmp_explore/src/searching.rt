@@ -1,17 +1,15 @@
 //! The search: breadth first over the states of a system, each restored from its row.
 ghost use Rattle.std.specs.Prelude.{◌≡◌, ◌≢◌, ◌<◌, IfOk, IfSome, length};
 ghost use Rattle.fmp_explore.specs.Noted.{told_at};
-ghost use Rattle.fmp_explore.specs.Searching.{HasEnded, IsBegun, IsKernelOf};
+ghost use Rattle.fmp_explore.specs.Searching.{AreKernelsOf, HasEnded, IsBegun};
 ghost use Rattle.fmp_witness.specs.Asked.{asked_of};
 
 use crate::crew::Crew;
+use crate::kernels::{KernelPair, kernels_of};
 use crate::rounds::Progress;
 use crate::searches::Search;
-use fmp_code::Vm;
-use fmp_kernel::Kernel;
-use fmp_replay::kernel_of;
 use fmp_witness::SearchSubject;
-use std::alloc::{AllocError, Global};
+use std::alloc::AllocError;
 
 /// Who is told how far a search has come, and limits its time.
 pub trait SearchWatcher {
@@ -85,24 +83,20 @@ impl Search {
         self.seen.len()
     }
 
-    /// Examines the states in order until none is left, or the search ends, with a kernel that is put into each of them
-    /// and one on which events are tried.
+    /// Examines the states in order until none is left, or the search ends.
     fn examine_all<'a, W: SearchWatcher, C: Crew>(
         &mut self,
-        alloc: Global,
         crew: &C,
         subject: &SearchSubject<'a>,
-        top: &mut Kernel<Vm<'a>>,
-        work: &mut Kernel<Vm<'a>>,
+        kernels: &mut KernelPair<'a>,
         watcher: &mut W,
     ) -> Result<Ending, AllocError>
         requires begun { IsBegun (asked_of subject.now) self.old }
         requires crew { C.can_work crew.now }
-        requires top { IsKernelOf (asked_of subject.now) top.old }
-        requires work { IsKernelOf (asked_of subject.now) work.old }
+        requires kernels { AreKernelsOf (asked_of subject.now) kernels.old }
         ensures { IfOk result (HasEnded (asked_of subject.now) self.new) }
     {
-        let mut progress = Progress::new(alloc);
+        let mut progress = Progress::new(self.alloc);
         for _turn in 0..u32::MAX {
             if progress.next as usize >= self.seen.len() {
                 return Ok(self.last_ending());
@@ -110,37 +104,15 @@ impl Search {
             if let Some(ending) = self.ending_before(subject, watcher, progress.next) {
                 return Ok(ending);
             }
-            self.advance(alloc, crew, subject, top, work, watcher, &mut progress)?;
+            self.advance(crew, subject, kernels, watcher, &mut progress)?;
         }
         Ok(Ending::StateLimit)
-    }
-
-    /// The same, with a kernel of its own on which events are tried.
-    #[tactic(none)]
-    fn run_on<'a, W: SearchWatcher, C: Crew>(
-        &mut self,
-        alloc: Global,
-        crew: &C,
-        subject: &SearchSubject<'a>,
-        top: &mut Kernel<Vm<'a>>,
-        watcher: &mut W,
-    ) -> Result<Ending, AllocError>
-        requires begun { IsBegun (asked_of subject.now) self.old }
-        requires crew { C.can_work crew.now }
-        requires top { IsKernelOf (asked_of subject.now) top.old }
-        ensures { IfOk result (HasEnded (asked_of subject.now) self.new) }
-    {
-        let mut work = kernel_of(alloc, subject.image, subject.n)?;
-        let ending = self.examine_all(alloc, crew, subject, top, &mut work, watcher);
-        drop(work);
-        ending
     }
 
     /// Runs the search to its end, with kernels of its own. `AllocError` if memory runs out.
     #[tactic(none)]
     pub fn run<W: SearchWatcher, C: Crew>(
         &mut self,
-        alloc: Global,
         crew: &C,
         subject: &SearchSubject<'_>,
         watcher: &mut W,
@@ -149,9 +121,9 @@ impl Search {
         requires crew { C.can_work crew.now }
         ensures { IfOk result (HasEnded (asked_of subject.now) self.new) }
     {
-        let mut top = kernel_of(alloc, subject.image, subject.n)?;
-        let ending = self.run_on(alloc, crew, subject, &mut top, watcher);
-        drop(top);
+        let mut kernels = kernels_of(self.alloc, subject)?;
+        let ending = self.examine_all(crew, subject, &mut kernels, watcher);
+        drop(kernels);
         ending
     }
 }

@@ -2,20 +2,20 @@
 //! result is the same wherever it runs, so slices can be examined at the same time as one another, and as the search
 //! itself.
 ghost use Rattle.std.specs.Prelude.{◌≡◌, ◌-◌, ◌≤◌, IfOk, OnOk, Some, length, slice_get, true};
-ghost use Rattle.fmp_explore.specs.Searching.{Grows, HasExamined, IsKernelOf, IsSearch, Stays};
+ghost use Rattle.fmp_explore.specs.Searching.{AreKernelsOf, Grows, HasExamined, IsSearch, Stays};
 ghost use Rattle.fmp_explore.specs.Slices.{HasExaminedFirst, HasKeptRow, HasTaken, IsSlice, IsSliceOf, IsTaken};
 ghost use Rattle.fmp_explore.specs.declared.searches.Search.{Search};
 ghost use Rattle.fmp_witness.specs.Asked.{asked_of};
 
 use crate::edges::Edges;
+use crate::kernels::{KernelPair, kernels_of};
 use crate::searches::Search;
 use crate::standing::is_same;
 use fmp_code::Vm;
 use fmp_kernel::Kernel;
-use fmp_replay::kernel_of;
 use fmp_visited::{RowEntry, Seen, StateLink};
 use fmp_witness::SearchSubject;
-use std::alloc::{AllocError, Global};
+use std::alloc::AllocError;
 
 /// Which states of a search are a slice.
 #[derive(Clone, Copy)]
@@ -42,22 +42,26 @@ pub struct Slice {
     pub search: Search,
 }
 
+/// A slice, unless memory ran out for it.
+pub type MadeSlice = Result<Slice, AllocError>;
+
 impl Search {
     /// A search with no state yet that keeps rows as this one does. `AllocError` if memory runs out.
-    fn again(&self, alloc: Global, subject: &SearchSubject<'_>) -> Result<Search, AllocError>
+    fn again(&self, subject: &SearchSubject<'_>) -> Result<Search, AllocError>
         requires { IsSearch (asked_of subject.now) self.now }
         ensures { IfOk result (IsSliceOf (asked_of subject.now) self.now) }
     {
-        let rows = self.rows.again(alloc, subject)?;
-        let tries = Vec::from_slice(alloc, &self.tries)?;
-        let seen = Seen::new(alloc, subject.question.states)?;
-        let notes = self.notes.again(alloc)?;
+        let rows = self.rows.again(self.alloc, subject)?;
+        let tries = Vec::from_slice(self.alloc, &self.tries)?;
+        let seen = Seen::new(self.alloc, subject.question.states)?;
+        let notes = self.notes.again()?;
         Ok(Search {
+            alloc: self.alloc,
             rows,
             tries,
             seen,
             notes,
-            edges: Edges::new(alloc, subject.image.system().tasks.len()),
+            edges: Edges::new(self.alloc, subject.image.system().tasks.len()),
             full: false,
             unwritten: false,
             sure: true,
@@ -66,15 +70,10 @@ impl Search {
 
     /// Keeps the state of a row, to which this link leads: its place, or 0 if as many are kept as are allowed.
     /// `AllocError` if memory runs out.
-    pub fn keep_row(
-        &mut self,
-        alloc: Global,
-        row: &[u8],
-        link: StateLink,
-    ) -> Result<u32, AllocError>
+    pub fn keep_row(&mut self, row: &[u8], link: StateLink) -> Result<u32, AllocError>
         ensures { OnOk result (HasKeptRow self.old self.new row.now) }
     {
-        let entry = self.seen.add(alloc, row, link)?;
+        let entry = self.seen.add(self.alloc, row, link)?;
         match entry {
             RowEntry::New(place) => Ok(place),
             RowEntry::Known(place) => Ok(place),
@@ -88,13 +87,13 @@ impl Search {
 
     /// Keeps the row of the state at a place of another search, if there is one.
     #[tactic(auto, using(crate::proofs::SearchStepLemmas::same_grows))]
-    fn take_row(&mut self, alloc: Global, whole: &Search, place: u32) -> Result<(), AllocError>
+    fn take_row(&mut self, whole: &Search, place: u32) -> Result<(), AllocError>
         ensures { OnOk result (Grows self.old self.new) }
     {
         let Some(link) = whole.seen.link(place) else {
             return Ok(());
         };
-        self.keep_row(alloc, whole.seen.row(place), link)?;
+        self.keep_row(whole.seen.row(place), link)?;
         Ok(())
     }
 
@@ -108,9 +107,9 @@ impl Search {
         is_same(self.seen.row(place), row)
     }
 
-    /// Looks whether the state at a place has this row. If not, nothing is sure.
+    /// Checks whether the state at a place has this row. If not, nothing is sure.
     #[tactic(auto, using(crate::proofs::SearchStepLemmas::same_grows))]
-    fn check_row(&mut self, alloc: Global, k: u32, row: &[u8])
+    fn check_row(&mut self, k: u32, row: &[u8])
         ensures grows { Grows self.old self.new }
         ensures there { self.new.sure ≡ true → slice_get self.new.seen.rows k ≡ Some row.now }
     {
@@ -118,17 +117,17 @@ impl Search {
             return;
         }
         self.sure = false;
-        self.edges.give_up(alloc);
+        self.edges.give_up(self.alloc);
     }
 
     /// Keeps the rows of states of another search as those of its first states. `AllocError` if memory runs out.
-    fn take_rows(&mut self, alloc: Global, whole: &Search, span: Span) -> Result<(), AllocError>
+    fn take_rows(&mut self, whole: &Search, span: Span) -> Result<(), AllocError>
         ensures { OnOk result (HasTaken whole.now span.first span.end self.old self.new) }
     {
         for place in span.first..span.end {
-            self.take_row(alloc, whole, place)?;
+            self.take_row(whole, place)?;
             let row = whole.seen.row(place);
-            self.check_row(alloc, place - span.first, row);
+            self.check_row(place - span.first, row);
         }
         Ok(())
     }
@@ -145,142 +144,103 @@ impl Search {
     }
 
     /// Hands states of this search to a search of their own. `AllocError` if memory runs out.
-    pub fn hand_over(
-        &self,
-        alloc: Global,
-        subject: &SearchSubject<'_>,
-        span: Span,
-    ) -> Result<Slice, AllocError>
+    pub fn hand_over(&self, subject: &SearchSubject<'_>, span: Span) -> Result<Slice, AllocError>
         requires { IsSearch (asked_of subject.now) self.now }
         ensures { IfOk result (IsTaken (asked_of subject.now) self.now) }
     {
         let span = self.within(span);
-        let mut search = self.again(alloc, subject)?;
-        search.take_rows(alloc, self, span)?;
+        let mut search = self.again(subject)?;
+        search.take_rows(self, span)?;
         Ok(Slice { span, search })
     }
 
     /// Makes room for what is done in the system of a kernel. `AllocError` if memory runs out.
     fn cover(
         &mut self,
-        alloc: Global,
         subject: &SearchSubject<'_>,
         kernel: &Kernel<Vm<'_>>,
     ) -> Result<(), AllocError>
         ensures { OnOk result (Stays self.old self.new) }
     {
-        self.notes.cover(alloc, subject, kernel)
+        self.notes.cover(subject, kernel)
     }
 
     /// Examines the state at a place, if there is one. If not, nothing is sure.
     fn examine_there<'a>(
         &mut self,
-        alloc: Global,
         subject: &SearchSubject<'a>,
-        top: &mut Kernel<Vm<'a>>,
-        work: &mut Kernel<Vm<'a>>,
+        kernels: &mut KernelPair<'a>,
         k: u32,
     ) -> Result<(), AllocError>
-        requires survey { IsSearch (asked_of subject.now) self.old }
-        requires top { IsKernelOf (asked_of subject.now) top.old }
-        requires work { IsKernelOf (asked_of subject.now) work.old }
+        requires search { IsSearch (asked_of subject.now) self.old }
+        requires kernels { AreKernelsOf (asked_of subject.now) kernels.old }
         ensures examined { OnOk result (HasExamined (asked_of subject.now) self.old self.new k) }
-        ensures top { IsKernelOf (asked_of subject.now) top.new }
-        ensures work { IsKernelOf (asked_of subject.now) work.new }
+        ensures kernels { AreKernelsOf (asked_of subject.now) kernels.new }
     {
         if k as usize >= self.seen.len() {
             self.sure = false;
-            self.edges.give_up(alloc);
+            self.edges.give_up(self.alloc);
             return Ok(());
         }
-        self.examine(alloc, subject, top, work, k)
+        self.examine(subject, kernels, k)
     }
 
     /// Examines the first states, this many.
     fn examine_first<'a>(
         &mut self,
-        alloc: Global,
         subject: &SearchSubject<'a>,
-        top: &mut Kernel<Vm<'a>>,
-        work: &mut Kernel<Vm<'a>>,
+        kernels: &mut KernelPair<'a>,
         count: u32,
     ) -> Result<(), AllocError>
-        requires survey { IsSearch (asked_of subject.now) self.old }
-        requires top { IsKernelOf (asked_of subject.now) top.old }
-        requires work { IsKernelOf (asked_of subject.now) work.old }
+        requires search { IsSearch (asked_of subject.now) self.old }
+        requires kernels { AreKernelsOf (asked_of subject.now) kernels.old }
         ensures { OnOk result (HasExaminedFirst (asked_of subject.now) count self.old self.new) }
     {
         for k in 0..count {
-            self.examine_there(alloc, subject, top, work, k)?;
+            self.examine_there(subject, kernels, k)?;
         }
         Ok(())
     }
 }
 
 impl Slice {
-    /// Examines its states, with a kernel that is put into each of them and one on which events are tried.
+    /// Examines its states.
     fn examine_on<'a>(
         &mut self,
-        alloc: Global,
         subject: &SearchSubject<'a>,
-        top: &mut Kernel<Vm<'a>>,
-        work: &mut Kernel<Vm<'a>>,
+        kernels: &mut KernelPair<'a>,
     ) -> Result<(), AllocError>
-        requires survey { IsSearch (asked_of subject.now) self.old.search }
-        requires top { IsKernelOf (asked_of subject.now) top.old }
-        requires work { IsKernelOf (asked_of subject.now) work.old }
+        requires search { IsSearch (asked_of subject.now) self.old.search }
+        requires kernels { AreKernelsOf (asked_of subject.now) kernels.old }
         ensures { (whole : Search) → IsTaken (asked_of subject.now) whole self.old →
             OnOk result (IsSlice (asked_of subject.now) whole self.new) }
     {
-        self.search.cover(alloc, subject, top)?;
+        self.search.cover(subject, &kernels.top)?;
         let count = self.span.len();
-        self.search.examine_first(alloc, subject, top, work, count)
+        self.search.examine_first(subject, kernels, count)
     }
 
-    /// The same, with a kernel of its own on which events are tried.
+    /// The same, with kernels of its own. `AllocError` if memory runs out.
     #[tactic(none)]
-    fn examine_with<'a>(
-        &mut self,
-        alloc: Global,
-        subject: &SearchSubject<'a>,
-        top: &mut Kernel<Vm<'a>>,
-    ) -> Result<(), AllocError>
-        requires survey { IsSearch (asked_of subject.now) self.old.search }
-        requires top { IsKernelOf (asked_of subject.now) top.old }
-        ensures { (whole : Search) → IsTaken (asked_of subject.now) whole self.old →
-            OnOk result (IsSlice (asked_of subject.now) whole self.new) }
-    {
-        let mut work = kernel_of(alloc, subject.image, subject.n)?;
-        let done = self.examine_on(alloc, subject, top, &mut work);
-        drop(work);
-        done
-    }
-
-    /// The same, with both kernels of its own. `AllocError` if memory runs out.
-    #[tactic(none)]
-    fn examine(&mut self, alloc: Global, subject: &SearchSubject<'_>) -> Result<(), AllocError>
+    fn examine(&mut self, subject: &SearchSubject<'_>) -> Result<(), AllocError>
         requires { IsSearch (asked_of subject.now) self.old.search }
         ensures { (whole : Search) → IsTaken (asked_of subject.now) whole self.old →
             OnOk result (IsSlice (asked_of subject.now) whole self.new) }
     {
-        let mut top = kernel_of(alloc, subject.image, subject.n)?;
-        let done = self.examine_with(alloc, subject, &mut top);
-        drop(top);
+        let mut kernels = kernels_of(self.search.alloc, subject)?;
+        let done = self.examine_on(subject, &mut kernels);
+        drop(kernels);
         done
     }
 }
 
 /// A slice whose states are examined, of one for which there was memory. `AllocError` if memory runs out, or did.
-pub fn examined(
-    alloc: Global,
-    subject: &SearchSubject<'_>,
-    taken: Result<Slice, AllocError>,
-) -> Result<Slice, AllocError>
+pub fn examined(subject: &SearchSubject<'_>, taken: MadeSlice) -> MadeSlice
     requires { IfOk taken (λ slice. IsSearch (asked_of subject.now) slice.search) }
     ensures { (whole : Search) → IfOk taken (IsTaken (asked_of subject.now) whole) →
         IfOk result (IsSlice (asked_of subject.now) whole) }
 {
     let mut slice = taken?;
-    slice.examine(alloc, subject)?;
+    slice.examine(subject)?;
     Ok(slice)
 }

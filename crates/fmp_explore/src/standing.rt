@@ -68,7 +68,6 @@ impl Search {
     /// What is watched in the state at a place, as its row tells. `AllocError` if memory runs out.
     pub fn examined(
         &mut self,
-        alloc: Global,
         subject: &SearchSubject<'_>,
         state: u32,
     ) -> Result<ExaminedState, AllocError>
@@ -80,7 +79,7 @@ impl Search {
     {
         let depth = self.depth_of(state);
         self.rows
-            .examined(alloc, subject, self.seen.row(state), state, depth)
+            .examined(self.alloc, subject, self.seen.row(state), state, depth)
     }
 
     /// Whether the row of a kernel that can take an event is that of the state that is examined, whose numbers were
@@ -107,7 +106,6 @@ impl Search {
     /// if memory runs out.
     fn replay_to<'a>(
         &mut self,
-        alloc: Global,
         subject: &SearchSubject<'a>,
         kernel: &mut Kernel<Vm<'a>>,
         at: &ExaminedState,
@@ -121,8 +119,8 @@ impl Search {
         ensures over { IsKernelOf (asked_of subject.now) kernel.new }
         ensures stands { IfOk result (λ yes. yes ≡ true → StandsAt (asked_of subject.now) self.new at.now kernel.new) }
     {
-        let steps = self.steps_to(alloc, subject.question, at.state)?;
-        if !follow_to(alloc, subject, kernel, &steps)? {
+        let steps = self.steps_to(subject.question, at.state)?;
+        if !follow_to(self.alloc, subject, kernel, &steps)? {
             return Ok(false);
         }
         self.has_row(subject, kernel, at)
@@ -157,7 +155,6 @@ impl Search {
     /// of the image is only looked at. `AllocError` if memory runs out.
     pub fn stand_at<'a>(
         &mut self,
-        alloc: Global,
         subject: &SearchSubject<'a>,
         other: &Kernel<Vm<'a>>,
         kernel: &mut Kernel<Vm<'a>>,
@@ -176,6 +173,6 @@ impl Search {
         if self.restore_to(subject, other, kernel, at)? {
             return Ok(true);
         }
-        self.replay_to(alloc, subject, kernel, at)
+        self.replay_to(subject, kernel, at)
     }
 }

@@ -4,6 +4,7 @@ ghost use Rattle.std.specs.List.{flat_map};
 ghost use Rattle.fmp_schedules.specs.Schedules as spec;
 ghost use Rattle.fmp_explore.specs.States.{AreMonitorsOf, kind_number, monitor_numbers, value_number};
 
+use crate::values::number_at;
 use fmp_base::Line;
 use fmp_fields::low_byte;
 use fmp_monitors::Standing;
@@ -77,14 +78,6 @@ fn standing_of(kind: u32, value: u32) -> Standing {
         1 => Standing::Held,
         2 => Standing::Inside(low_byte(value as usize)),
         _ => Standing::Waiting(value),
-    }
-}
-
-/// The number at a place, or 0.
-fn number_at(numbers: &[u32], place: usize) -> u32 {
-    match numbers.get(place) {
-        Some(number) => *number,
-        None => 0,
     }
 }
 

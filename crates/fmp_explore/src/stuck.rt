@@ -4,7 +4,7 @@ ghost use Rattle.fmp_base.specs.States.{task_at};
 ghost use Rattle.fmp_instructions.specs.Machine.{code_meaning};
 ghost use Rattle.fmp_replay.specs.Replays.{kernel_after};
 ghost use Rattle.fmp_schedules.specs.Schedules.{reached};
-ghost use Rattle.fmp_explore.specs.Behind.{IsAbout, NeverActs, NoneFollows};
+ghost use Rattle.fmp_explore.specs.After.{IsAbout, NeverActs, NoneFollows};
 ghost use Rattle.fmp_witness.specs.Findings.{IsSo};
 ghost use Rattle.fmp_witness.specs.Followed.{IsFollowed};
 ghost use Rattle.fmp_explore.specs.Searching.{IsBegun};
@@ -14,6 +14,7 @@ use crate::crew::Alone;
 use crate::exploring::{run_search, start_search};
 use crate::searches::Search;
 use crate::searching::{Ending, SearchWatcher};
+use crate::values::number_at;
 use fmp_base::{Event, Phase, System};
 use fmp_code::Vm;
 use fmp_fields::{What, low_byte};
@@ -82,14 +83,6 @@ fn place_of(fields: &[What], what: What) -> usize {
     fields.len()
 }
 
-/// The value at a place; 0 if there is none.
-fn value_at(values: &[u32], place: usize) -> u32 {
-    match values.get(place) {
-        Some(value) => *value,
-        None => 0,
-    }
-}
-
 /// The body of the task at a place.
 fn body_at(sys: &System, t: u8) -> u8 {
     match sys.tasks.get(usize::from(t)) {
@@ -110,21 +103,21 @@ fn has_bit(bytes: &[u8], t: u8) -> bool {
 /// memory runs out.
 fn suspect_of(
     alloc: Global,
-    survey: &Search,
+    search: &Search,
     sys: &System,
     t: u8,
 ) -> Result<Option<Suspect>, AllocError> {
-    let fields = survey.rows.fields.list();
+    let fields = search.rows.fields.list();
     let phase = place_of(fields, What::Phase(t));
     let pc = place_of(fields, What::Pc(t));
     let mut values = Vec::new(alloc);
-    for state in 0..survey.edges.len() {
-        if survey.edges.ends_from(state) || survey.edges.acts_from(state, t) {
+    for state in 0..search.edges.len() {
+        if search.edges.ends_from(state) || search.edges.acts_from(state, t) {
             continue;
         }
-        unpack(survey.seen.row(state), &survey.rows.first, &mut values)?;
-        if value_at(&values, phase) != 0 {
-            let pc = (value_at(&values, pc).saturating_sub(1) % 65_536) as u16;
+        unpack(search.seen.row(state), &search.rows.first, &mut values)?;
+        if number_at(&values, phase) != 0 {
+            let pc = (number_at(&values, pc).saturating_sub(1) % 65_536) as u16;
             let body = body_at(sys, t);
             let site = CallSite { body, pc };
             return Ok(Some(Suspect {
@@ -157,18 +150,18 @@ fn in_order(alloc: Global, suspects: &[Suspect]) -> Result<Vec<Suspect>, AllocEr
 /// states. `AllocError` if memory runs out.
 fn suspects_of(
     alloc: Global,
-    survey: &Search,
+    search: &Search,
     sys: &System,
     question: &Question,
 ) -> Result<Vec<Suspect>, AllocError> {
     let mut suspects = Vec::new(alloc);
-    let lacking = survey.edges.lacking(alloc)?;
+    let lacking = search.edges.lacking(alloc)?;
     for t in 0..sys.tasks.len() {
         let t = low_byte(t);
         if may_rest(question, t) || !has_bit(&lacking, t) {
             continue;
         }
-        if let Some(suspect) = suspect_of(alloc, survey, sys, t)? {
+        if let Some(suspect) = suspect_of(alloc, search, sys, t)? {
             suspects.push(suspect)?;
         }
     }
@@ -179,14 +172,14 @@ fn suspects_of(
 /// memory runs out.
 fn stuck_in(
     alloc: Global,
-    survey: &Search,
+    search: &Search,
     sys: &System,
     question: &Question,
 ) -> Result<Vec<Finding>, AllocError> {
     let mut findings = Vec::new(alloc);
-    for suspect in suspects_of(alloc, survey, sys, question)? {
+    for suspect in suspects_of(alloc, search, sys, question)? {
         findings.push(Finding {
-            steps: survey.steps_to(alloc, question, suspect.state)?,
+            steps: search.steps_to(question, suspect.state)?,
             kind: FindingKind::Stuck(suspect.task),
             site: Some(suspect.site),
         })?;
@@ -196,13 +189,13 @@ fn stuck_in(
 
 /// Whether a task is started in a state that can go on only by an interrupt, and can go on from there. `AllocError` if
 /// memory runs out.
-fn is_helped(alloc: Global, survey: &Search, t: u8) -> Result<bool, AllocError> {
-    let phase = place_of(survey.rows.fields.list(), What::Phase(t));
+fn is_helped(alloc: Global, search: &Search, t: u8) -> Result<bool, AllocError> {
+    let phase = place_of(search.rows.fields.list(), What::Phase(t));
     let mut values = Vec::new(alloc);
-    for state in survey.edges.waiting() {
-        if survey.edges.acts_from(*state, t) {
-            unpack(survey.seen.row(*state), &survey.rows.first, &mut values)?;
-            if value_at(&values, phase) != 0 {
+    for state in search.edges.waiting() {
+        if search.edges.acts_from(*state, t) {
+            unpack(search.seen.row(*state), &search.rows.first, &mut values)?;
+            if number_at(&values, phase) != 0 {
                 return Ok(true);
             }
         }
@@ -214,7 +207,7 @@ fn is_helped(alloc: Global, survey: &Search, t: u8) -> Result<bool, AllocError> 
 /// `AllocError` if memory runs out.
 fn waits_for_interrupt(
     alloc: Global,
-    survey: &Search,
+    search: &Search,
     sys: &System,
     question: &Question,
 ) -> Result<bool, AllocError> {
@@ -223,7 +216,7 @@ fn waits_for_interrupt(
         if may_rest(question, t) {
             continue;
         }
-        if is_helped(alloc, survey, t)? {
+        if is_helped(alloc, search, t)? {
             return Ok(true);
         }
     }
@@ -233,14 +226,14 @@ fn waits_for_interrupt(
 /// What seems to be so after a search in which every state was examined. `AllocError` if there was no memory to look.
 pub fn suspected(
     alloc: Global,
-    survey: &mut Search,
+    search: &mut Search,
     sys: &System,
     question: &Question,
 ) -> Result<Suspicions, AllocError> {
-    survey.edges.spread(alloc, &survey.seen)?;
+    search.edges.spread(alloc, &search.seen)?;
     Ok(Suspicions {
-        findings: stuck_in(alloc, survey, sys, question)?,
-        waits: waits_for_interrupt(alloc, survey, sys, question)?,
+        findings: stuck_in(alloc, search, sys, question)?,
+        waits: waits_for_interrupt(alloc, search, sys, question)?,
     })
 }
 
@@ -290,17 +283,16 @@ fn question_of(
 /// Whether a search shows that no forbidden line is told along any schedule after the events where it began. The limit
 /// at which it stops, if it ends before it knows.
 fn shows_silence<W: SearchWatcher>(
-    alloc: Global,
     subject: &SearchSubject<'_>,
-    survey: &mut Search,
+    search: &mut Search,
     watcher: &mut W,
 ) -> Result<bool, SearchLimit>
-    requires { IsBegun (asked_of subject.now) survey.old }
+    requires { IsBegun (asked_of subject.now) search.old }
     ensures { IfOk result (λ yes. IsTrue yes → NoneFollows (asked_of subject.now)) }
 {
     subject.image.keeps_rules();
-    match run_search(alloc, &Alone, survey, subject, &mut Quiet { watcher }) {
-        Ending::Complete => Ok(survey.sure),
+    match run_search(&Alone, search, subject, &mut Quiet { watcher }) {
+        Ending::Complete => Ok(search.sure),
         Ending::Found => Ok(false),
         Ending::StateLimit => Err(SearchLimit::States),
         Ending::TimeLimit => Err(SearchLimit::Time),
@@ -318,9 +310,9 @@ fn is_silent_so<W: SearchWatcher>(
 ) -> Result<Option<bool>, SearchLimit>
     ensures { IfOk result (λ known. IfSome known (λ yes. IsTrue yes → NoneFollows (asked_of subject.now))) }
 {
-    let mut survey = start_search(alloc, outs, subject)?;
-    let yes = shows_silence(alloc, subject, &mut survey, watcher)?;
-    if survey.unwritten {
+    let mut search = start_search(alloc, outs, subject)?;
+    let yes = shows_silence(subject, &mut search, watcher)?;
+    if search.unwritten {
         return Ok(None);
     }
     Ok(Some(yes))

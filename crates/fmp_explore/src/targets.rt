@@ -3,6 +3,7 @@
 //! its source was begun: mostly one or two bytes. The bytes are read in either direction.
 ghost use Rattle.std.specs.Prelude.{◌≡◌, ◌-◌, ◌%◌, ◌^◌, [], slice_get, unwrap_or};
 
+use crate::values::number_at;
 use fmp_visited::Seen;
 use std::alloc::{AllocError, Global};
 
@@ -67,10 +68,7 @@ pub fn low_word(place: usize) -> u32
 pub fn at(list: &[u32], place: u32) -> u32
     ensures { result ≡ unwrap_or (slice_get list.now place) 0 }
 {
-    match list.get(place as usize) {
-        Some(number) => *number,
-        None => 0,
-    }
+    number_at(list, place as usize)
 }
 
 /// The state from which another one was reached first; itself if there is none at this place.

@@ -4,9 +4,9 @@ ghost use Rattle.fmp_explore.specs.Searching.{came_on, marked};
 
 use crate::notes::PathEnd;
 use fmp_base::Event;
-use fmp_question::Question;
 use fmp_schedules::Monitor;
 use fmp_visited::StateLink;
+use fmp_witness::SearchSubject;
 
 /// A state that is examined.
 #[derive(Drop)]
@@ -21,16 +21,23 @@ pub struct ExaminedState {
     pub monitors: Vec<Monitor>,
 }
 
-impl ExaminedState {
-    /// The events that lead to it.
-    pub fn end<'a>(&self, question: &'a Question) -> PathEnd<'a>
-        ensures after { result.after.now ≡ question.now.after.items }
-        ensures state { result.state ≡ self.now.state }
+/// The examination of a state, in a search for what is asked about a subject.
+#[derive(Clone, Copy)]
+pub struct Examination<'e, 'a> {
+    pub subject: &'e SearchSubject<'a>,
+    pub at: &'e ExaminedState,
+}
+
+impl<'a> Examination<'_, 'a> {
+    /// The events that lead to the state.
+    pub fn end(&self) -> PathEnd<'a>
+        ensures after { result.after.now ≡ self.now.subject.now.question.now.after.items }
+        ensures state { result.state ≡ self.now.at.now.state }
         ensures last { result.last ≡ None }
     {
         PathEnd {
-            after: &question.after,
-            state: self.state,
+            after: &self.subject.question.after,
+            state: self.at.state,
             last: None,
         }
     }
@@ -38,51 +45,52 @@ impl ExaminedState {
 
 /// An event that is tried in a state.
 #[derive(Clone, Copy)]
-pub struct Attempt<'a> {
-    pub at: &'a ExaminedState,
+pub struct Attempt<'e, 'a> {
+    pub here: Examination<'e, 'a>,
     pub event: Event,
 }
 
-impl<'a> Attempt<'a> {
+impl<'a> Attempt<'_, 'a> {
     /// How the state is reached to which the event leads.
     pub fn link(&self, kept: bool) -> StateLink
         ensures { result ≡ record {
-          parent = self.now.at.now.state;
+          parent = self.now.here.at.now.state;
           event = self.now.event;
           kept = kept;
-          depth = min (self.now.at.now.depth + 1) 4294967295;
+          depth = min (self.now.here.at.now.depth + 1) 4294967295;
         } }
     {
         StateLink {
-            parent: self.at.state,
+            parent: self.here.at.state,
             event: self.event,
             kept,
-            depth: self.at.depth.saturating_add(1),
+            depth: self.here.at.depth.saturating_add(1),
         }
     }
 
     /// The events that lead to the state, with this one.
-    pub fn end<'q>(&self, question: &'q Question) -> PathEnd<'q>
-        ensures after { result.after.now ≡ question.now.after.items }
-        ensures state { result.state ≡ self.now.at.now.state }
+    pub fn end(&self) -> PathEnd<'a>
+        ensures after { result.after.now ≡ self.now.here.subject.now.question.now.after.items }
+        ensures state { result.state ≡ self.now.here.at.now.state }
         ensures last { result.last ≡ Some self.now.event }
     {
         PathEnd {
-            after: &question.after,
-            state: self.at.state,
+            after: &self.here.subject.question.after,
+            state: self.here.at.state,
             last: Some(self.event),
         }
     }
 
     /// How many interrupts came after the event, where their number is limited.
-    pub fn came(&self, question: &Question) -> usize
-        requires { is_some question.now.interrupts ≡ true → self.now.at.now.came < 256 }
-        ensures { result ≡ came_on question.now.interrupts self.now.at.now.came self.now.event }
+    pub fn came(&self) -> usize
+        requires { is_some self.now.here.subject.now.question.now.interrupts ≡ true → self.now.here.at.now.came < 256 }
+        ensures { result ≡ came_on self.now.here.subject.now.question.now.interrupts self.now.here.at.now.came
+            self.now.event }
     {
-        match (question.interrupts, self.event) {
+        match (self.here.subject.question.interrupts, self.event) {
             (None, _) => 0,
-            (Some(_), Event::Int(_)) => self.at.came + 1,
-            (Some(_), _) => self.at.came,
+            (Some(_), Event::Int(_)) => self.here.at.came + 1,
+            (Some(_), _) => self.here.at.came,
         }
     }
 }

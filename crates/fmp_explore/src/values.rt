@@ -1,6 +1,6 @@
 //! The table of values: how many values each field has in some of the states that were seen, and how many values are
 //! kept for each sentence and limit.
-ghost use Rattle.std.specs.Prelude.{◌≤◌};
+ghost use Rattle.std.specs.Prelude.{◌≡◌, ◌≤◌, slice_get, unwrap_or};
 
 use fmp_fields::What;
 use fmp_visited::{Seen, unpack};
@@ -50,21 +50,25 @@ struct Column {
 }
 
 /// The number at a place; 0 where there is none.
-fn number_at(numbers: &[u32], place: usize) -> u64 {
+pub fn number_at(numbers: &[u32], place: usize) -> u32
+    ensures { result ≡ unwrap_or (slice_get numbers.now place) 0 }
+{
     match numbers.get(place) {
-        Some(number) => u64::from(*number),
+        Some(number) => *number,
         None => 0,
     }
 }
 
 /// The value that stands among these numbers.
 fn value_in(numbers: &[u32], column: Column) -> u64 {
-    let first = number_at(numbers, column.place);
+    let first = u64::from(number_at(numbers, column.place));
     if !column.is_pair {
         return first;
     }
     let second = number_at(numbers, column.place.saturating_add(1));
-    first.saturating_mul(1 << 32).saturating_add(second)
+    first
+        .saturating_mul(1 << 32)
+        .saturating_add(u64::from(second))
 }
 
 /// How many states with this many numbers each are looked at, at most.

@@ -7,6 +7,6 @@ make_report-requires g c =
     record {
       holds = λ whole sure none.
           let asked = asked_of c.args.subject.now in
-          nothing_found asked c.run_search-ending.new.survey
+          nothing_found asked c.run_search-ending.new.search
           (c.run_search-ending.ensures whole) none sure;
     }

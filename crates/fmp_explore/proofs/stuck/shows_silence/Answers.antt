@@ -5,6 +5,6 @@ use Rattle.fmp_witness.specs.Asked.{asked_of}
 pub returns-in-Complete : goal.returns-in-Complete
 returns-in-Complete g c = λ yes.
     let asked = asked_of c.args.subject.now in
-    none_follows asked c.run_search.new.survey
+    none_follows asked c.run_search.new.search
     (c.run_search.ensures c.in-Complete.is)
     yes

@@ -4,7 +4,7 @@ use Rattle.fmp_witness.specs.Asked.{asked_of}
 
 pub note_effect-requires-clause-sound : goal.note_effect-requires-clause-sound
 note_effect-requires-clause-sound c =
-    let asked = asked_of c.args.subject.now in
+    let asked = asked_of c.args.attempt.here.subject.now in
     let a = c.args.attempt in
     let k = c.step-effect.new.self in
     let x = c.step-effect.result in
@@ -17,7 +17,7 @@ note_effect-requires-clause-sound c =
 
 pub returns-clause-dealt : goal.returns-clause-dealt
 returns-clause-dealt c =
-    let asked = asked_of c.args.subject.now in
+    let asked = asked_of c.args.attempt.here.subject.now in
     let a = c.args.attempt in
     c.in_ok-note_effect.ensures c.args.kernel.now
     (stepped asked c.args.kernel.now c.step-effect.new.self a.event c.step-effect.result
@@ -25,7 +25,7 @@ returns-clause-dealt c =
 
 pub returns-clause-does : goal.returns-clause-does
 returns-clause-does c = λ yes.
-    let asked = asked_of c.args.subject.now in
+    let asked = asked_of c.args.attempt.here.subject.now in
     let a = c.args.attempt in
     stepped_does asked c.keeps_rules.ensures c.args.kernel.now a.event c.step-effect.new.self
     c.step-effect.result

@@ -7,8 +7,8 @@ use Rattle.fmp_explore.proofs.NextLemmas.{clean_setup, fresh_search, lines_at_se
 use Rattle.fmp_explore.proofs.searches.Search.begin_on.Goals as goal
 use Rattle.fmp_witness.specs.Asked.{asked_of}
 
-pub begin_behind-requires-clause-survey : goal.begin_behind-requires-clause-survey
-begin_behind-requires-clause-survey c =
+pub begin_after-requires-clause-search : goal.begin_after-requires-clause-search
+begin_after-requires-clause-search c =
     let asked = asked_of c.args.subject.now in
     let stays = c.in_ok-note_setup.ensures.stays in
     fresh_search asked c.args.self.now _ c.requires.fresh stays.same.tries
@@ -20,8 +20,8 @@ begin_behind-requires-clause-survey c =
     ∙ length-map c.deref.result.now _
     ∙ ap (λ (ss : List Monitor). length ss) c.deref.ensures.value))
 
-pub begin_behind-requires-clause-monitors : goal.begin_behind-requires-clause-monitors
-begin_behind-requires-clause-monitors c =
+pub begin_after-requires-clause-monitors : goal.begin_after-requires-clause-monitors
+begin_after-requires-clause-monitors c =
     let asked = asked_of c.args.subject.now in
     c.deref-3.ensures.value
     ∙ c.in_ok-monitors.ensures
@@ -29,8 +29,8 @@ begin_behind-requires-clause-monitors c =
     ∙ ap (λ (ls : List Line). monitors_after asked.question.monitors.items ls) c.lines.ensures
     ∙ lines_at_setup asked c.args.kernel.now c.requires.kernel
 
-pub begin_behind-requires-clause-clean : goal.begin_behind-requires-clause-clean
-begin_behind-requires-clause-clean c = λ sure.
+pub begin_after-requires-clause-clean : goal.begin_after-requires-clause-clean
+begin_after-requires-clause-clean c = λ sure.
     let asked = asked_of c.args.subject.now in
     clean_setup asked c.args.kernel.now c.requires.kernel
     (c.in_ok-note_setup.ensures.clean sure) (c.in_ok-note_setup.ensures.alone sure)

@@ -11,7 +11,7 @@ use Rattle.fmp_witness.specs.Asked.{asked_of}
 pub stand_at-requires-clause-live : goal.stand_at-requires-clause-live
 stand_at-requires-clause-live c =
     same_live (asked_of c.args.subject.now) c.args.self.now c.examined.new.self c.examined.ensures.stays.same
-    c.requires.survey.survey.live
+    c.requires.search.table.live
 
 pub stand_at-requires-clause-there : goal.stand_at-requires-clause-there
 stand_at-requires-clause-there c =
@@ -24,12 +24,12 @@ stand_at-requires-clause-told c =
     subst (λ (state : ℕ). HasTold s.rows (unwrap_or (slice_get s.seen.rows state) [])) (sym c.in_ok-at.ensures.state)
     c.in_ok-at.ensures.row
 
-pub examine_on-requires-clause-survey : goal.examine_on-requires-clause-survey
-examine_on-requires-clause-survey c =
+pub examine_on-requires-clause-search : goal.examine_on-requires-clause-search
+examine_on-requires-clause-search c =
     let asked = asked_of c.args.subject.now in
     stays_search asked c.args.self.now c.stand_at.new.self
     (stays_on c.args.self.now c.examined.new.self c.stand_at.new.self c.examined.ensures.stays
-    c.stand_at.ensures.stays) c.requires.survey
+    c.stand_at.ensures.stays) c.requires.search
 
 pub examine_on-requires-clause-ready : goal.examine_on-requires-clause-ready
 examine_on-requires-clause-ready c = (c.in_ok-stand_at.ensures.stands c.if-not-branch.false).ready
@@ -37,7 +37,7 @@ examine_on-requires-clause-ready c = (c.in_ok-stand_at.ensures.stands c.if-not-b
 pub returns-then-not-branch-clause-examined : goal.returns-then-not-branch-clause-examined
 returns-then-not-branch-clause-examined c =
     let asked = asked_of c.args.subject.now in
-    state_lost asked c.args.self.now _ c.args.state c.requires.survey
+    state_lost asked c.args.self.now _ c.args.state c.requires.search
     (stays_on c.args.self.now c.examined.new.self _ c.examined.ensures.stays
     (stays_on c.examined.new.self c.stand_at.new.self _ c.stand_at.ensures.stays
     (record {
@@ -59,3 +59,15 @@ returns-clause-examined c =
     (stays_on c.args.self.now c.examined.new.self c.stand_at.new.self c.examined.ensures.stays
     c.stand_at.ensures.stays) (c.in_ok-stand_at.ensures.stands c.if-not-branch.false) tried))
     c.examine_on.ensures.tried
+
+pub stand_at-requires-clause-other : goal.stand_at-requires-clause-other
+stand_at-requires-clause-other c = c.requires.kernels.work
+
+pub stand_at-requires-clause-over : goal.stand_at-requires-clause-over
+stand_at-requires-clause-over c = c.requires.kernels.top
+
+pub examine_on-requires-clause-work : goal.examine_on-requires-clause-work
+examine_on-requires-clause-work c = c.requires.kernels.work
+
+pub returns-then-not-branch-clause-kernels : goal.returns-then-not-branch-clause-kernels
+returns-then-not-branch-clause-kernels c = record { top = c.stand_at.ensures.over; work = c.requires.kernels.work }

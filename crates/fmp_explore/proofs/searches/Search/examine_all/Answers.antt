@@ -18,8 +18,7 @@ loop-turn-init g c =
       pending =
           subst (λ (slices : List (Result Slice AllocError)). AreSlices asked c.args.self.now slices)
           (sym c.new-progress.ensures.pending) (All-nil (λ s. IfOk s (IsSlice asked c.args.self.now)));
-      top = c.requires.top;
-      work = c.requires.work;
+      kernels = c.requires.kernels;
     }
 
 pub loop-turn-preserved : goal.loop-turn-preserved
@@ -27,8 +26,7 @@ loop-turn-preserved g c =
     record {
       searching = c.in_ok-advance.ensures.searching;
       pending = c.in_ok-advance.ensures.pending;
-      top = c.in_ok-advance.ensures.top;
-      work = c.in_ok-advance.ensures.work;
+      kernels = c.in_ok-advance.ensures.kernels;
     }
 
 pub returns-then-progress-len : goal.returns-then-progress-len

@@ -1,4 +1,4 @@
-use Rattle.fmp_explore.specs.Searching.{IsKernelOf, IsSearching}
+use Rattle.fmp_explore.specs.Searching.{AreKernelsOf, IsSearching}
 use Rattle.fmp_explore.specs.Slices.{AreSlices}
 use Rattle.fmp_explore.proofs.searches.Search.examine_all.Given as goal
 use Rattle.fmp_witness.specs.Asked.{asked_of}
@@ -8,6 +8,5 @@ invariant-loop-turn g l =
     record {
       searching : IsSearching (asked_of l.subject) l.progress.next l.self;
       pending : AreSlices (asked_of l.subject) l.self l.progress.pending.items;
-      top : IsKernelOf (asked_of l.subject) l.top;
-      work : IsKernelOf (asked_of l.subject) l.work;
+      kernels : AreKernelsOf (asked_of l.subject) l.kernels;
     }

@@ -9,16 +9,15 @@ loop-k-init c =
     record {
       first =
           record {
-            survey = c.requires.survey;
+            search = c.requires.search;
             grows = same_grows c.args.self.now;
             each = λ sure k row before. absurd (omega (arith, before));
           };
-      top = c.requires.top;
-      work = c.requires.work;
+      kernels = c.requires.kernels;
     }
 
-pub examine_there-requires-clause-survey : goal.examine_there-requires-clause-survey
-examine_there-requires-clause-survey c = c.loop-k.invariant.first.survey
+pub examine_there-requires-clause-search : goal.examine_there-requires-clause-search
+examine_there-requires-clause-search c = c.loop-k.invariant.first.search
 
 pub loop-k-preserved : goal.loop-k-preserved
 loop-k-preserved c =
@@ -27,15 +26,14 @@ loop-k-preserved c =
       first =
           first_examined (asked_of c.args.subject.now) l.k c.args.self.now l.self c.examine_there.new.self
           l.invariant.first c.in_ok-examine_there.ensures.examined;
-      top = c.in_ok-examine_there.ensures.top;
-      work = c.in_ok-examine_there.ensures.work;
+      kernels = c.in_ok-examine_there.ensures.kernels;
     }
 
 pub returns : goal.returns
 returns c =
     let first = c.loop-k.invariant.first in
     record {
-      survey = first.survey;
+      search = first.search;
       grows = first.grows;
       each = λ sure k row before there. first.each sure k row (omega (arith, before)) there;
     }

@@ -1,4 +1,4 @@
-use Rattle.fmp_explore.specs.Searching.{IsKernelOf}
+use Rattle.fmp_explore.specs.Searching.{AreKernelsOf}
 use Rattle.fmp_explore.specs.Slices.{HasExaminedFirst}
 use Rattle.fmp_explore.proofs.searches.Search.examine_first.Given as goal
 use Rattle.fmp_witness.specs.Asked.{asked_of}
@@ -7,6 +7,5 @@ abbrev pub invariant-loop-k : goal.invariant-loop-k
 invariant-loop-k l =
     record {
       first : HasExaminedFirst (asked_of l.subject) l.k l.fn.self l.self;
-      top : IsKernelOf (asked_of l.subject) l.top;
-      work : IsKernelOf (asked_of l.subject) l.work;
+      kernels : AreKernelsOf (asked_of l.subject) l.kernels;
     }

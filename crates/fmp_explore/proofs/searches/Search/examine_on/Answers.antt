@@ -15,16 +15,24 @@ finish-requires-clause-last c =
 
 pub returns-then-busy-clause-tried : goal.returns-then-busy-clause-tried
 returns-then-busy-clause-tried c =
-    let asked = asked_of c.args.subject.now in
+    let asked = asked_of c.args.here.subject.now in
     IfOk-weaker c.finish_busy.result _ _
-    (λ _ out. tried_out_before asked c.args.top.now.world _ c.args.self.now c.try_before.new.self
+    (λ _ out. tried_out_before asked c.args.kernels.now.top.world _ c.args.self.now c.try_before.new.self
     c.finish_busy.new.self c.in_ok-marks.ensures.tried.grows out)
     c.finish_busy.ensures.tried
 
 pub returns-clause-tried : goal.returns-clause-tried
 returns-clause-tried c =
-    let asked = asked_of c.args.subject.now in
+    let asked = asked_of c.args.here.subject.now in
     IfOk-weaker c.finish.result _ _
-    (λ _ out. tried_out_before asked c.args.top.now.world _ c.args.self.now c.try_before.new.self c.finish.new.self
+    (λ _ out. tried_out_before asked c.args.kernels.now.top.world _ c.args.self.now c.try_before.new.self
+    c.finish.new.self
     c.in_ok-marks.ensures.tried.grows out)
     c.finish.ensures.tried
+
+pub returns-then-busy-clause-kernels : goal.returns-then-busy-clause-kernels
+returns-then-busy-clause-kernels c =
+    record { top = c.finish_busy.ensures.over; work = c.try_before.ensures.over }
+
+pub returns-clause-kernels : goal.returns-clause-kernels
+returns-clause-kernels c = record { top = c.requires.ready.over; work = c.finish.ensures.over }

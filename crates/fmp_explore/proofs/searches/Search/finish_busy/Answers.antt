@@ -11,12 +11,12 @@ use Rattle.fmp_witness.specs.Asked.{asked_of}
 
 pub returns-clause-tried : goal.returns-clause-tried
 returns-clause-tried c =
-    let asked = asked_of c.args.subject.now in
+    let asked = asked_of c.args.here.subject.now in
     let w = c.args.kernel.now.world in
     let a = c.args.self.now in
     let b = c.try_at.new.self in
     let t = c.in_ok-try_at.ensures in
-    let same = ap (λ (es : List Event). length es) c.requires.trying.survey.survey.tries in
+    let same = ap (λ (es : List Event). length es) c.requires.trying.search.table.tries in
     let long = a.tries.ok.0 in
     let all : length (all_tries asked.image.system) ≤ c.args.last + 1 = omega (arith, same, long, c.requires.last) in
     all_tried asked w _ a b b c.try_at.new.marks c.keeps_rules.ensures

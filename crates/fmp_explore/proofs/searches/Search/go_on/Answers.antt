@@ -4,8 +4,8 @@ use Rattle.fmp_explore.proofs.SliceLemmas.{slices_stay}
 use Rattle.fmp_explore.proofs.searches.Search.go_on.Goals as goal
 use Rattle.fmp_witness.specs.Asked.{asked_of}
 
-pub examine-requires-clause-survey : goal.examine-requires-clause-survey
-examine-requires-clause-survey g c = c.requires.searching.begun.survey
+pub examine-requires-clause-search : goal.examine-requires-clause-search
+examine-requires-clause-search g c = c.requires.searching.begun.search
 
 pub returns-clause-searching : goal.returns-clause-searching
 returns-clause-searching g c =

@@ -5,7 +5,7 @@ use Rattle.fmp_witness.specs.Asked.{asked_of}
 
 pub returns-then-marks : goal.returns-then-marks
 returns-then-marks c =
-    let asked = asked_of c.args.subject.now in
+    let asked = asked_of c.args.here.subject.now in
     record {
       stays =
           record {

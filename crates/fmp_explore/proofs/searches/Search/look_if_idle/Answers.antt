@@ -5,7 +5,7 @@ use Rattle.fmp_witness.specs.Asked.{asked_of}
 
 pub returns-else-marks : goal.returns-else-marks
 returns-else-marks c =
-    let asked = asked_of c.args.subject.now in
+    let asked = asked_of c.args.here.subject.now in
     record {
       stays =
           record {

@@ -13,23 +13,24 @@ use Rattle.fmp_witness.specs.Asked.{asked_of}
 
 pub keep_next-requires-clause-live : goal.keep_next-requires-clause-live
 keep_next-requires-clause-live c =
-    same_live (asked_of c.args.subject.now) c.args.self.now c.note_lines.new.self c.in_ok-note_lines.ensures.stays.same
-    c.requires.survey.survey.live
+    same_live (asked_of c.args.attempt.here.subject.now) c.args.self.now c.note_lines.new.self
+    c.in_ok-note_lines.ensures.stays.same
+    c.requires.search.table.live
 
 pub keep_next-requires-clause-held : goal.keep_next-requires-clause-held
 keep_next-requires-clause-held c =
-    subst (λ (ss : List Monitor). AreMonitorsOf c.args.subject.now.question.now.monitors.items ss)
+    subst (λ (ss : List Monitor). AreMonitorsOf c.args.attempt.here.subject.now.question.now.monitors.items ss)
     (sym c.deref-then-are_none.ensures.value) c.requires.attempt.state.held
 
 pub returns-then-are_none : goal.returns-then-are_none
 returns-then-are_none c = λ w done.
-    let asked = asked_of c.args.subject.now in
+    let asked = asked_of c.args.attempt.here.subject.now in
     let a = c.args.attempt in
-    let at = a.at.now in
+    let at = a.here.at.now in
     let none = sym c.deref-2.ensures.value ∙ c.are_none.ensures c.if-are_none.true in
     IfOk-weaker c.keep_next.result _ _
     (λ _ kept. dealt_done asked c.args.self.now c.note_lines.new.self c.keep_next.new.self
-    c.args.kernel.now w at.came at.monitors.items a.event c.requires.survey c.in_ok-note_lines.ensures.stays
+    c.args.kernel.now w at.came at.monitors.items a.event c.requires.search c.in_ok-note_lines.ensures.stays
     c.in_ok-note_lines.ensures.clean
     (λ sure. subst (λ (ss : List Monitor). is_any_broken ss c.args.kernel.now.lines ≡ false)
     c.deref.ensures.value (c.in_ok-note_lines.ensures.alone sure))
@@ -42,26 +43,27 @@ returns-then-are_none c = λ w done.
 
 pub keep_next-requires-2-clause-live : goal.keep_next-requires-2-clause-live
 keep_next-requires-2-clause-live c =
-    same_live (asked_of c.args.subject.now) c.args.self.now c.note_lines.new.self c.in_ok-note_lines.ensures.stays.same
-    c.requires.survey.survey.live
+    same_live (asked_of c.args.attempt.here.subject.now) c.args.self.now c.note_lines.new.self
+    c.in_ok-note_lines.ensures.stays.same
+    c.requires.search.table.live
 
 pub keep_next-requires-2-clause-held : goal.keep_next-requires-2-clause-held
 keep_next-requires-2-clause-held c =
-    let s = c.args.subject.now in
+    let s = c.args.attempt.here.subject.now in
     subst (λ (ss : List Monitor). AreMonitorsOf s.question.now.monitors.items ss)
     (sym (c.deref-4.ensures.value ∙ c.in_ok-monitors.ensures
     ∙ ap (λ (ss : List Monitor). monitors_after ss c.lines.result.now) c.deref-3.ensures.value))
-    (held-after s.question.now.monitors.items c.args.attempt.at.now.monitors.items c.lines.result.now
+    (held-after s.question.now.monitors.items c.args.attempt.here.at.now.monitors.items c.lines.result.now
     c.requires.attempt.state.held)
 
 pub returns : goal.returns
 returns c = λ w done.
-    let asked = asked_of c.args.subject.now in
+    let asked = asked_of c.args.attempt.here.subject.now in
     let a = c.args.attempt in
-    let at = a.at.now in
+    let at = a.here.at.now in
     IfOk-weaker c.keep_next-2.result _ _
     (λ _ kept. dealt_done asked c.args.self.now c.note_lines.new.self c.keep_next-2.new.self
-    c.args.kernel.now w at.came at.monitors.items a.event c.requires.survey c.in_ok-note_lines.ensures.stays
+    c.args.kernel.now w at.came at.monitors.items a.event c.requires.search c.in_ok-note_lines.ensures.stays
     c.in_ok-note_lines.ensures.clean
     (λ sure. subst (λ (ss : List Monitor). is_any_broken ss c.args.kernel.now.lines ≡ false)
     c.deref.ensures.value (c.in_ok-note_lines.ensures.alone sure))

@@ -9,9 +9,9 @@ use Rattle.fmp_witness.specs.Asked.{asked_of}
 
 pub returns-then-not-queues_within : goal.returns-then-not-queues_within
 returns-then-not-queues_within c = λ w done.
-    let asked = asked_of c.args.subject.now in
+    let asked = asked_of c.args.attempt.here.subject.now in
     let a = c.args.attempt in
-    let x = watched_in asked.question a.at.now in
+    let x = watched_in asked.question a.here.at.now in
     dealt_not asked c.args.self.now _ w x a.event
     (record {
       same = record { tries = refl; fields = refl; first = refl; outs = refl; live = refl };
@@ -23,9 +23,9 @@ returns-then-not-queues_within c = λ w done.
 
 pub returns-then-not-all_let : goal.returns-then-not-all_let
 returns-then-not-all_let c = λ w done.
-    let asked = asked_of c.args.subject.now in
+    let asked = asked_of c.args.attempt.here.subject.now in
     let a = c.args.attempt in
-    let x = watched_in asked.question a.at.now in
+    let x = watched_in asked.question a.here.at.now in
     dealt_not asked c.args.self.now _ w x a.event c.note_held.ensures
     (held_back asked w x a.event
     (ap (λ (ms : List Monitor). all_let ms a.event) (sym c.deref.ensures.value)

@@ -9,21 +9,21 @@ use Rattle.fmp_witness.specs.Asked.{asked_of}
 
 pub returns-in-Nothing : goal.returns-in-Nothing
 returns-in-Nothing c = λ before stepped.
-    let asked = asked_of c.args.subject.now in
+    let asked = asked_of c.args.attempt.here.subject.now in
     let a = c.args.attempt in
     let at = subst (λ (x : Effect). HasStepped asked before a.event c.args.kernel.now x) c.in-Nothing.is
     stepped in
     record {
       grows = same_grows c.args.self.now;
       leads = λ _ may.
-          leads_nowhere asked (rows_of c.args.self.now) c.requires.survey.survey.fields
+          leads_nowhere asked (rows_of c.args.self.now) c.requires.search.table.fields
           before.world _ a.event
           (stepped_none asked c.keeps_rules.ensures before a.event c.args.kernel.now at);
     }
 
 pub returns-in-Done : goal.returns-in-Done
 returns-in-Done c = λ before stepped.
-    let asked = asked_of c.args.subject.now in
+    let asked = asked_of c.args.attempt.here.subject.now in
     let a = c.args.attempt in
     c.note_done_within.ensures before.world
     (stepped_done asked c.keeps_rules.ensures before a.event c.args.kernel.now
@@ -31,7 +31,7 @@ returns-in-Done c = λ before stepped.
 
 pub returns-in-Kept : goal.returns-in-Kept
 returns-in-Kept c = λ before stepped.
-    let asked = asked_of c.args.subject.now in
+    let asked = asked_of c.args.attempt.here.subject.now in
     let a = c.args.attempt in
     c.note_kept.ensures before.world
     (stepped_kept asked c.keeps_rules.ensures before a.event c.args.kernel.now

@@ -10,23 +10,24 @@ use Rattle.fmp_witness.specs.Asked.{asked_of}
 
 pub keep_next-requires-clause-live : goal.keep_next-requires-clause-live
 keep_next-requires-clause-live c =
-    same_live (asked_of c.args.subject.now) c.args.self.now c.note_place.new.self c.in_ok-note_place.ensures.same
-    c.requires.survey.survey.live
+    same_live (asked_of c.args.attempt.here.subject.now) c.args.self.now c.note_place.new.self
+    c.in_ok-note_place.ensures.same
+    c.requires.search.table.live
 
 pub keep_next-requires-clause-held : goal.keep_next-requires-clause-held
 keep_next-requires-clause-held c =
-    let s = c.args.subject.now in
+    let s = c.args.attempt.here.subject.now in
     subst (λ (ss : List Monitor). AreMonitorsOf s.question.now.monitors.items ss) (sym c.deref.ensures.value)
     c.requires.attempt.state.held
 
 pub returns : goal.returns
 returns c = λ w kept_place.
-    let asked = asked_of c.args.subject.now in
+    let asked = asked_of c.args.attempt.here.subject.now in
     let a = c.args.attempt in
-    let at = a.at.now in
+    let at = a.here.at.now in
     IfOk-weaker c.keep_next.result _ _
     (λ _ kept. dealt_kept asked c.args.self.now c.note_place.new.self c.keep_next.new.self
-    c.args.kernel.now w at.came at.monitors.items a.event c.requires.survey c.in_ok-note_place.ensures kept_place
+    c.args.kernel.now w at.came at.monitors.items a.event c.requires.search c.in_ok-note_place.ensures kept_place
     c.requires.sound.sound
     (subst (λ (ss : List Monitor). HasKept asked c.note_place.new.self c.keep_next.new.self
     c.args.kernel.now.world (watched_with asked.question (came_on asked.question.interrupts at.came a.event) ss))

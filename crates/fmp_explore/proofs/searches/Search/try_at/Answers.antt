@@ -18,49 +18,49 @@ attempt-requires-clause-attempt c =
 
 pub returns-then-not-may_try-clause-trying : goal.returns-then-not-may_try-clause-trying
 returns-then-not-may_try-clause-trying c =
-    let asked = asked_of c.args.subject.now in
+    let asked = asked_of c.args.here.subject.now in
     let t = c.requires.trying in
     let a = c.args.self.now in
     let w = c.args.kernel.now.world in
-    let x = watched_in asked.question c.args.at.now in
+    let x = watched_in asked.question c.args.here.at.now in
     let e = c.index-event.result.now in
     let found = slice_get_read a.tries.items _ c.args.place c.index-event.result.now refl c.requires.place
     c.index-event.ensures in
     let tried = subst (λ (xs : List Event). slice_get xs c.args.place ≡ Some c.index-event.result.now)
-    t.survey.survey.tries found in
+    t.search.table.tries found in
     one_tried asked w x a a c.args.marks.now c.args.marks.now c.args.place e t
     tried (same_grows a) t.marks
     (λ _ may. absurd (c.may_try.ensures.no w c.if-not-may_try.true t.marks may))
 
 pub returns-then-not-branch-clause-trying : goal.returns-then-not-branch-clause-trying
 returns-then-not-branch-clause-trying c =
-    let asked = asked_of c.args.subject.now in
+    let asked = asked_of c.args.here.subject.now in
     let t = c.requires.trying in
     let a = c.args.self.now in
     let w = c.args.kernel.now.world in
-    let x = watched_in asked.question c.args.at.now in
+    let x = watched_in asked.question c.args.here.at.now in
     let e = c.index-event.result.now in
     let dealt = c.in_ok-attempt.ensures.dealt in
     let found = slice_get_read a.tries.items _ c.args.place c.index-event.result.now refl c.requires.place
     c.index-event.ensures in
     let tried = subst (λ (xs : List Event). slice_get xs c.args.place ≡ Some c.index-event.result.now)
-    t.survey.survey.tries found in
+    t.search.table.tries found in
     one_tried asked w x a c.attempt.new.self c.args.marks.now c.args.marks.now
     c.args.place e t tried dealt.grows t.marks (λ sure may. dealt.leads sure may)
 
 pub returns-clause-trying : goal.returns-clause-trying
 returns-clause-trying c =
-    let asked = asked_of c.args.subject.now in
+    let asked = asked_of c.args.here.subject.now in
     let t = c.requires.trying in
     let a = c.args.self.now in
     let w = c.args.kernel.now.world in
-    let x = watched_in asked.question c.args.at.now in
+    let x = watched_in asked.question c.args.here.at.now in
     let e = c.index-event.result.now in
     let dealt = c.in_ok-attempt.ensures.dealt in
     let found = slice_get_read a.tries.items _ c.args.place c.index-event.result.now refl c.requires.place
     c.index-event.ensures in
     let tried = subst (λ (xs : List Event). slice_get xs c.args.place ≡ Some c.index-event.result.now)
-    t.survey.survey.tries found in
+    t.search.table.tries found in
     let more =
     marks_more asked w x c.args.marks.now e c.keeps_rules.ensures c.requires.ready.sound
     t.marks

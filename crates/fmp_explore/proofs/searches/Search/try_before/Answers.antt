@@ -5,10 +5,10 @@ use Rattle.std.proofs.Common.{arith}
 
 pub returns-then-next-end-clause-tried : goal.returns-then-next-end-clause-tried
 returns-then-next-end-clause-tried c =
-    fewer_of (asked_of c.args.subject.now) c.args.from.now.world _ c.args.self.now c.loop-try.self
+    fewer_of (asked_of c.args.here.subject.now) c.args.from.now.world _ c.args.self.now c.loop-try.self
     c.loop-try.marks c.loop-try.next c.args.end (omega (arith, c.if-next-end.true)) c.loop-try.invariant.tried
 
 pub returns-clause-tried : goal.returns-clause-tried
 returns-clause-tried c =
-    fewer_of (asked_of c.args.subject.now) c.args.from.now.world _ c.args.self.now c.loop-try.self
+    fewer_of (asked_of c.args.here.subject.now) c.args.from.now.world _ c.args.self.now c.loop-try.self
     c.loop-try.marks c.loop-try.next c.args.end (omega (arith, c.loop-try.invariant.far)) c.loop-try.invariant.tried

@@ -8,7 +8,7 @@ invariant-loop-try l =
     record {
       far : l._try ≤ l.next;
       tried :
-          HasTried (asked_of l.subject) l.from.world
-          (watched_in l.subject.question.now l.at) l.marks l.fn.self l.self l.next;
-      over : IsKernelOf (asked_of l.subject) l.kernel;
+          HasTried (asked_of l.here.subject.now) l.from.world
+          (watched_in l.here.subject.now.question.now l.here.at.now) l.marks l.fn.self l.self l.next;
+      over : IsKernelOf (asked_of l.here.subject.now) l.kernel;
     }

@@ -7,8 +7,8 @@ abbrev pub invariant-loop-place : goal.invariant-loop-place
 invariant-loop-place l =
     record {
       tried :
-          HasTried (asked_of l.subject) l.fn.kernel.world
-          (watched_in l.subject.question.now l.at) l.marks l.fn.self l.self l.place;
-      ready : CanStep (asked_of l.subject) l.kernel;
+          HasTried (asked_of l.here.subject.now) l.fn.kernel.world
+          (watched_in l.here.subject.now.question.now l.here.at.now) l.marks l.fn.self l.self l.place;
+      ready : CanStep (asked_of l.here.subject.now) l.kernel;
       same : l.kernel ≡ l.fn.kernel;
     }

@@ -8,9 +8,9 @@ use Rattle.fmp_witness.specs.Asked.{asked_of}
 
 pub returns-then-last-end-clause-tried : goal.returns-then-last-end-clause-tried
 returns-then-last-end-clause-tried c =
-    let asked = asked_of c.args.subject.now in
+    let asked = asked_of c.args.here.subject.now in
     let a = c.args.self.now in
-    let same = ap (λ (es : List Event). length es) c.requires.trying.survey.survey.tries in
+    let same = ap (λ (es : List Event). length es) c.requires.trying.search.table.tries in
     let long = a.tries.ok.0 in
     let all : length (all_tries asked.image.system) ≤ c.args.last = omega (arith, same, long, c.if-last-end.true) in
     fewer_of asked c.args.from.now.world _ a a c.args.marks c.args.last (length (all_tries asked.image.system)) all
@@ -18,9 +18,9 @@ returns-then-last-end-clause-tried c =
 
 pub returns-clause-tried : goal.returns-clause-tried
 returns-clause-tried c =
-    let asked = asked_of c.args.subject.now in
+    let asked = asked_of c.args.here.subject.now in
     let a = c.args.self.now in
-    let same = ap (λ (es : List Event). length es) c.requires.trying.survey.survey.tries in
+    let same = ap (λ (es : List Event). length es) c.requires.trying.search.table.tries in
     let long = a.tries.ok.0 in
     let next = c.in_ok-_next in
     let all : length (all_tries asked.image.system) ≤ next._next =

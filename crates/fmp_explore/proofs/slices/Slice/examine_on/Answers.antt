@@ -6,10 +6,10 @@ use Rattle.fmp_explore.proofs.SliceLemmas.{taken_examined}
 use Rattle.fmp_explore.proofs.slices.Slice.examine_on.Goals as goal
 use Rattle.fmp_witness.specs.Asked.{asked_of}
 
-pub examine_first-requires-clause-survey : goal.examine_first-requires-clause-survey
-examine_first-requires-clause-survey c =
+pub examine_first-requires-clause-search : goal.examine_first-requires-clause-search
+examine_first-requires-clause-search c =
     stays_search (asked_of c.args.subject.now) c.args.self.now.search c.cover.new.self c.in_ok-cover.ensures
-    c.requires.survey
+    c.requires.search
 
 pub returns : goal.returns
 returns c = λ whole taken.

@@ -8,11 +8,11 @@ use Rattle.fmp_witness.specs.Followed.{IsFollowed}
 use Rattle.fmp_explore.specs.States.{AreMonitorsOf}
 use Rattle.fmp_explore.proofs.NextLemmas.{begun_nowhere, begun_of}
 use Rattle.fmp_explore.proofs.MonitorLemmas.{held-after, held-self}
-use Rattle.fmp_explore.proofs.searches.Search.begin_behind.Goals as goal
+use Rattle.fmp_explore.proofs.searches.Search.begin_after.Goals as goal
 use Rattle.fmp_witness.specs.Asked.{asked_of}
 
 pub keep_first-requires-clause-live : goal.keep_first-requires-clause-live
-keep_first-requires-clause-live c = c.requires.survey.survey.live
+keep_first-requires-clause-live c = c.requires.search.table.live
 
 pub keep_first-requires-clause-few : goal.keep_first-requires-clause-few
 keep_first-requires-clause-few c = λ _.
@@ -36,7 +36,7 @@ returns-then-not-can_begin c =
       seen = refl;
       sure = λ e. absurd (cc (e));
     })
-    c.requires.survey refl
+    c.requires.search refl
 
 pub returns-then-not-follow : goal.returns-then-not-follow
 returns-then-not-follow c =
@@ -47,7 +47,7 @@ returns-then-not-follow c =
       seen = refl;
       sure = λ e. absurd (cc (e));
     })
-    c.requires.survey refl
+    c.requires.search refl
 
 pub returns : goal.returns
 returns c =
@@ -57,5 +57,5 @@ returns c =
     (c.follow.ensures c.if-not-follow.false) in
     IfOk-weaker c.keep_first.result _ _
     (λ _ kept. begun_of asked c.args.self.now c.keep_first.new.self c.follow.new.kernel
-    c.args.monitors.now c.requires.survey c.requires.clean followed c.requires.monitors kept)
+    c.args.monitors.now c.requires.search c.requires.clean followed c.requires.monitors kept)
     c.keep_first.ensures
