@@ -4,7 +4,8 @@ use Rattle.std.proofs.lemmas.List.{append_assoc, append-nil}
 use Rattle.std.proofs.Math.Seq.{drop-append_seam, drop-length}
 use Rattle.json.specs.Token.{Token}
 use Rattle.fmp_server.specs.declared.messages.RequestId.{RequestId}
-use Rattle.fmp_server.specs.Messages.{Adds, IsAnswered, answer_head, ended, notification, notification_head}
+use Rattle.fmp_server.specs.Messages.{Adds, IsAnswered, answer, answer_head, ended, notification}
+use Rattle.fmp_server.specs.Messages.{notification_head}
 
 pub ruleset adding = (drop-append_seam, drop-length, append_assoc, append-nil)
 
@@ -21,6 +22,13 @@ pub answered : (id : RequestId) (before bytes : List ℕ) (old new : List Token)
     → Adds old new → bytes ≡ before ++ ended new → IsAnswered id bytes
 answered id before bytes old new none is adds e =
     (drop (length old) new, written before bytes (answer_head id) old new none is adds e)
+
+-- a value after the head of an answer is its value
+pub answered_by : (id : RequestId) (before bytes : List ℕ) (old new value : List Token) → before ≡ []
+    → old ≡ answer_head id → new ≡ old ++ value → bytes ≡ before ++ ended new → bytes ≡ answer id value
+answered_by id before bytes old new value none is adds e =
+    e ∙ ap (λ (b : List ℕ). b ++ ended new) none
+    ∙ ap (λ (t : List Token). ended t) (adds ∙ ap (λ (h : List Token). h ++ value) is)
 
 -- what was added to the head of a notification is its value
 pub notified : (method before bytes : List ℕ) (old new : List Token) → before ≡ [] → old ≡ notification_head method

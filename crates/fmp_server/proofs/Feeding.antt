@@ -5,7 +5,7 @@ use Rattle.std.proofs.lemmas.Bool.{lt-ltb}
 use Rattle.std.proofs.lemmas.List.{append-nil}
 use Rattle.std.proofs.lemmas.List.Folds.{drop_split}
 use Rattle.std.specs.Option.{option_to_list}
-use Rattle.fmp_server.specs.Framing.{Part, step, fed, fed_behind}
+use Rattle.fmp_server.specs.Framing.{Part, step, fed, fed_after}
 
 -- what comes in parts is read as what comes whole
 pub fed_append : (p : Part) (a b : List ℕ) →
@@ -67,7 +67,7 @@ all_fed line told m (b ∷ bs) n h e =
 -- a stretch of bytes, and then those after it
 pub stretch_fed : (p q : Part) (before ms : List (List ℕ)) (bytes : List ℕ) (at end : ℕ) → at ≤ end
     → (q, ms) ≡ fed p (slice_range bytes at end)
-    → fed_behind q (before ++ ms) (drop end bytes) ≡ fed_behind p before (drop at bytes)
+    → fed_after q (before ++ ms) (drop end bytes) ≡ fed_after p before (drop at bytes)
 stretch_fed p q before ms bytes at end on e =
     let s = slice_range bytes at end in
     let d = drop end bytes in

@@ -2,12 +2,15 @@ pub mod Adding
 pub mod Clashes
 pub mod Digits
 pub mod Feeding
+pub mod Hovering
 pub mod Ids
 pub mod Joining
 pub mod LastItem
 pub mod Locations
+pub mod NamedAt
 pub mod Naming
 pub mod Notices
+pub mod Order
 pub mod Ranges
 pub mod ReadBack
 pub mod Taking

@@ -1,4 +1,4 @@
--- The places of a name that are asked for, one after the other.
+-- The positions of a name that are asked for, one after the other.
 use Rattle.std.proofs.Common.{ℕ, ◌≡◌, ◌<◌, ◌+◌, ◌-◌, ◌++◌, Bool, true, false, List, [], ◌∷◌, length, get_or, take}
 use Rattle.std.proofs.Common.{ap, ◌∙◌, refl}
 use Rattle.std.specs.Bool.{MatchBool}
@@ -31,7 +31,7 @@ one_if : (w : WantedPositions) (p : NamePosition) (b : Bool) → wants w p.decla
     → wanted_of w (p ∷ []) ≡ positions_of (cond b (p ∷ []) [])
 one_if w p b e = ap (λ (b : Bool). positions_of (cond b (p ∷ []) [])) e
 
--- the locations of some places stand after these tokens
+-- the locations of some positions stand after these tokens
 abbrev pub Stand : (text uri : List ℕ) → List TokenPosition → (start tokens : List Token) → Type 0
 Stand text uri ps start tokens =
     (ranges : List TextRange) × AreRanges text ps ranges × (tokens ≡ start ++ flat_map (λ r. location uri r) ranges)
@@ -47,21 +47,21 @@ next_by : (text uri : List ℕ) (w : WantedPositions) (xs : List NamePosition) (
 next_by text uri w xs i d start old new true e h (rs, a, eq) (r, ra, n) =
     let p : NamePosition = get_or xs i d in
     let before : List TokenPosition = wanted_of w (take i xs) in
-    let places : wanted_of w (take (i + 1) xs) ≡ before ++ p.position ∷ [] =
+    let positions : wanted_of w (take (i + 1) xs) ≡ before ++ p.position ∷ [] =
     parted w xs i d h ∙ ap (λ (q : List TokenPosition). before ++ q) (one_if w p true e) in (
       rs ++ r ∷ [],
-      rw places (ranges_more text before rs p.position r a ra),
+      rw positions (ranges_more text before rs p.position r a ra),
       n ∙ ap (λ (t : List Token). t ++ location uri r) eq
           ∙ flat_map_more (λ (r : TextRange). location uri r) start rs r,
     )
 next_by text uri w xs i d start old new false e h (rs, a, eq) n =
     let p : NamePosition = get_or xs i d in
     let before : List TokenPosition = wanted_of w (take i xs) in
-    let places : wanted_of w (take (i + 1) xs) ≡ before =
+    let positions : wanted_of w (take (i + 1) xs) ≡ before =
     parted w xs i d h ∙ ap (λ (q : List TokenPosition). before ++ q) (one_if w p false e) ∙ append-nil before in
-    (rs, rw places a, n ∙ eq)
+    (rs, rw positions a, n ∙ eq)
 
--- one place more, if it is asked for
+-- one position more, if it is asked for
 pub next_location : (text uri : List ℕ) (w : WantedPositions) (xs : List NamePosition) (i : ℕ) (d : NamePosition)
     (start old new : List Token)
     → i < length xs → Stand text uri (wanted_of w (take i xs)) start old

@@ -1,18 +1,16 @@
--- The places of a text at which a name stands for something, token by token.
+-- The positions of a text at which a name stands for something, token by token.
 use Rattle.std.proofs.Common.{ℕ, zero, suc, ◌≡◌, ◌<◌, ◌+◌, ◌++◌, Bool, true, false, List, [], ◌∷◌, Option, Some, None}
 use Rattle.std.proofs.Common.{drop, length, slice_get, take, option_map, refl, ap, sym, ◌∙◌, add-one, arith}
 use Rattle.std.specs.Prelude.{if◌then◌else◌}
 use Rattle.std.proofs.lemmas.List.{append_assoc, drop_more}
 use Rattle.std.proofs.lemmas.Option.{slice_get-map, get_or_from_slice_get, slice_get_within}
-use Rattle.fmp_lex.specs.declared.position.TokenPosition.{TokenPosition}
 use Rattle.fmp_lex.specs.declared.token.Token.{Token}
 use Rattle.fmp_lex.specs.declared.token.TokenKind.{TokenKind}
-use Rattle.fmp_lex.specs.Positions.{position_of}
 use Rattle.fmp_lex.specs.Reading.{kinds_of}
 use Rattle.fmp_server.specs.declared.roles.NamePosition.{NamePosition}
 use Rattle.fmp_server.specs.declared.roles.Role.{Role}
 use Rattle.fmp_server.specs.declared.roles.RoleWalk.{RoleWalk}
-use Rattle.fmp_server.specs.Roles.{declares, named_positions, place_of, stands_for, walked, walked_all}
+use Rattle.fmp_server.specs.Roles.{named_positions, name_position, positions_at, stands_for, walked, walked_all}
 
 some_same : {A : Type 0} (a b : A) → Some a ≡ Some b → a ≡ b
 some_same a b e = cc e
@@ -35,9 +33,9 @@ found ts i k e = of_kind (slice_get ts i) k (sym (slice_get-map (λ (t : Token).
 
 here : (w : RoleWalk) (r : Role) (t : Token) (rest : List Token) (b : Bool) → stands_for w r t.kind ≡ b
     → named_positions w r (t ∷ rest)
-    ≡ (if b then place_of w t ∷ [] else []) ++ named_positions (walked w t.kind) r rest
+    ≡ (if b then name_position w t ∷ [] else []) ++ named_positions (walked w t.kind) r rest
 here w r t rest b e =
-    ap (λ (b : Bool). (if b then place_of w t ∷ [] else []) ++ named_positions (walked w t.kind) r rest) e
+    ap (λ (b : Bool). (if b then name_position w t ∷ [] else []) ++ named_positions (walked w t.kind) r rest) e
 
 -- a token at which the name does not stand for this
 pub passed : (w : RoleWalk) (r : Role) (ts : List Token) (i : ℕ) (k : TokenKind) → slice_get (kinds_of ts) i ≡ Some k
@@ -51,34 +49,19 @@ passed w r ts i k e f =
 
 -- a token at which it does
 pub named : (w : RoleWalk) (r : Role) (ts : List Token) (i : ℕ) (k : TokenKind) (old : List NamePosition)
-    (q : NamePosition)
-    → slice_get (kinds_of ts) i ≡ Some k → option_map position_of (slice_get ts i) ≡ Some q.position
-    → q.declares ≡ declares w.before → stands_for w r k ≡ true
-    → (old ++ q ∷ []) ++ named_positions (walked w k) r (drop (i + 1) ts) ≡ old ++ named_positions w r (drop i ts)
-named w r ts i k old q e g d f =
+    → slice_get (kinds_of ts) i ≡ Some k → stands_for w r k ≡ true
+    → (old ++ positions_at w (slice_get ts i)) ++ named_positions (walked w k) r (drop (i + 1) ts)
+    ≡ old ++ named_positions w r (drop i ts)
+named w r ts i k old e f =
     let h = found ts i k e in
     let rest = drop (i + 1) ts in
     let more = named_positions (walked w k) r rest in
-    let same : Some (position_of h.0) ≡ Some q.position =
-    sym (ap (λ (o : Option Token). option_map position_of o) h.1) ∙ g in
-    let position : position_of h.0 ≡ q.position = cc in
-    let place : place_of w h.0 ≡ q =
-    ap (λ (p : TokenPosition). record { position = p; declares = declares w.before }) position
-    ∙ ap (λ (b : Bool). record { position = q.position; declares = b }) (sym d) in
-    append_assoc old (q ∷ []) more
+    ap (λ (o : Option Token). (old ++ positions_at w o) ++ more) h.1
+    ∙ append_assoc old (name_position w h.0 ∷ []) more
     ∙ ap (λ (l : List NamePosition). old ++ l)
     (sym (ap (λ (l : List Token). named_positions w r l) (held ts i h.0 h.1)
     ∙ here w r h.0 rest true (ap (λ (x : TokenKind). stands_for w r x) h.2 ∙ f)
-    ∙ ap (λ (x : TokenKind). place_of w h.0 ∷ named_positions (walked w x) r rest) h.2
-    ∙ ap (λ (p : NamePosition). p ∷ more) place))
-
--- a token that is of some kind has a place
-pub placed : (ts : List Token) (i : ℕ) (k : TokenKind) → slice_get (kinds_of ts) i ≡ Some k
-    → (option_map position_of (slice_get ts i) ≡ option_map position_of (slice_get ts i))
-    × ((p : TokenPosition) × (option_map position_of (slice_get ts i) ≡ Some p))
-placed ts i k e =
-    let h = found ts i k e in
-    (refl, (position_of h.0, ap (λ (o : Option Token). option_map position_of o) h.1))
+    ∙ ap (λ (x : TokenKind). name_position w h.0 ∷ named_positions (walked w x) r rest) h.2))
 
 -- within the list there is a kind
 pub kind_held : (ts : List Token) (i : ℕ) → i < length ts

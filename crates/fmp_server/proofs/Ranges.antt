@@ -1,4 +1,4 @@
--- What stands at places of a text, one after the other, and the edits there.
+-- What stands at positions of a text, one after the other, and the edits there.
 use Rattle.std.proofs.Common.{ℕ, ◌≡◌, ◌<◌, ◌+◌, ◌-◌, List, [], ◌∷◌, ◌++◌, length, get_or, take, refl, ap, ◌∙◌}
 use Rattle.std.specs.Prelude.{flat_map}
 use Rattle.std.proofs.lemmas.List.{flat_map_more, map-append, take_more}
@@ -10,7 +10,7 @@ use Rattle.fmp_server.specs.Messages.{edit}
 use Rattle.fmp_server.specs.Positions.{AreRanges, IsRange}
 use Rattle.fmp_server.specs.Roles.{positions_of}
 
--- one place more
+-- one position more
 pub ranges_more : (text : List ℕ) (ps : List TokenPosition) (rs : List TextRange) (p : TokenPosition) (r : TextRange)
     → AreRanges text ps rs → IsRange text (p.line - 1) p.start p.end r
     → AreRanges text (ps ++ p ∷ []) (rs ++ r ∷ [])
@@ -24,7 +24,7 @@ positions_more xs i d h =
     ap (λ (l : List NamePosition). positions_of l) (take_more xs i d h)
     ∙ map-append (λ (p : NamePosition). p.position) (take i xs) (get_or xs i d ∷ [])
 
--- the next place of a list
+-- the next position of a list
 pub next_range : (text : List ℕ) (xs : List NamePosition) (i : ℕ) (d : NamePosition) (rs : List TextRange)
     (r : TextRange)
     → i < length xs → AreRanges text (positions_of (take i xs)) rs

@@ -50,8 +50,8 @@ abbrev pub told : List ℕ → ℕ → ℕ
 told line before = if tells_length line then length_in (drop 15 line) else before
 
 -- after an empty line the message begins, if a length was told
-abbrev pub behind_line : Part → Part
-behind_line p =
+abbrev pub after_line : Part → Part
+after_line p =
     if length p.line == 0 then record p { told = 0; left = p.told }
     else record p { line = []; told = told p.line p.told }
 
@@ -59,7 +59,7 @@ abbrev pub kept : List ℕ → ℕ → List ℕ
 kept line b = if is_blank b || nat_le LINE_MAX (length line) then line else line ++ to_ascii_lowercase b ∷ []
 
 abbrev pub in_header : Part → ℕ → Part
-in_header p b = if b == 10 then behind_line p else record p { line = kept p.line b }
+in_header p b = if b == 10 then after_line p else record p { line = kept p.line b }
 
 abbrev pub in_message : Part → ℕ → Part × Option (List ℕ)
 in_message p b =
@@ -80,5 +80,5 @@ abbrev pub framed : List ℕ → List ℕ
 framed message = codes "Content-Length: " ++ decimal (length message) ++ codes "\r\n\r\n" ++ message
 
 -- what bytes do after these messages
-abbrev pub fed_behind : Part → List (List ℕ) → List ℕ → Part × List (List ℕ)
-fed_behind p messages bytes = let r = fed p bytes in (r.0, messages ++ r.1)
+abbrev pub fed_after : Part → List (List ℕ) → List ℕ → Part × List (List ℕ)
+fed_after p messages bytes = let r = fed p bytes in (r.0, messages ++ r.1)

@@ -1,14 +1,15 @@
 -- What stands in messages: those of JSON-RPC that come, and those that go.
 use Rattle.std.specs.Prelude.{◌≡◌, ◌≢◌, ◌⊎◌, ℕ, ℤ, negsuc, List, [], ◌∷◌, ◌++◌, Option, Some, None, Err, Ok}
-use Rattle.std.specs.Prelude.{MatchOption, codes, drop, flat_map, length, ok_or, option_and_then}
+use Rattle.std.specs.Prelude.{MatchOption, codes, drop, false, flat_map, length, ok_or, option_and_then}
 use Rattle.std.specs.Fmt.{signed_decimal}
 use Rattle.std.specs.Int.{w64}
 use Rattle.std.specs.Str.Parse.{ParsesSigned, ParsesUnsigned}
 use Rattle.json.specs.Find.{as_number, as_str, get}
 use Rattle.json.specs.Json.{Json}
 use Rattle.json.specs.Print.{print}
-use Rattle.json.specs.Token.{Token, begin_array, begin_object, end_array, end_object, key, null, number, string}
-use Rattle.fmp_json.specs.Members.{number_member, text_member}
+use Rattle.json.specs.Token.{Token, begin_array, begin_object, boolean, end_array, end_object, key, null, number}
+use Rattle.json.specs.Token.{string}
+use Rattle.fmp_json.specs.Members.{list_begin, number_member, text_member}
 use Rattle.fmp_server.specs.declared.messages.Message.{Message}
 use Rattle.fmp_server.specs.declared.messages.Message.TheVariants as message
 use Rattle.fmp_server.specs.declared.messages.Refusal.{Refusal}
@@ -144,6 +145,24 @@ answer id value = ended (answer_head id ++ value)
 abbrev pub IsAnswered : RequestId → List ℕ → Type 0
 IsAnswered id bytes = (value : List Token) × (bytes ≡ answer id value)
 
+-- a list of symbols
+abbrev pub symbol_list : (symbols : List Token) → List Token
+symbol_list symbols = (begin_array ∷ [] ++ symbols) ++ end_array ∷ []
+
+-- a complete list of words
+abbrev pub word_list_begin : List Token
+word_list_begin = begin_object ∷ key (codes "isIncomplete") ∷ boolean false ∷ list_begin (codes "items")
+
+abbrev pub word_list : (words : List Token) → List Token
+word_list words = ((word_list_begin ++ words) ++ end_array ∷ []) ++ end_object ∷ []
+
+-- the request is answered with symbols; with words
+abbrev pub HasSymbols : RequestId → List ℕ → Type 0
+HasSymbols id bytes = (symbols : List Token) × (bytes ≡ answer id (symbol_list symbols))
+
+abbrev pub HasWords : RequestId → List ℕ → Type 0
+HasWords id bytes = (words : List Token) × (bytes ≡ answer id (word_list words))
+
 -- the notification of a method, with a value as its parameters
 abbrev pub notification : (method : List ℕ) → (value : List Token) → List ℕ
 notification method value = ended (notification_head method ++ value)
@@ -176,6 +195,6 @@ contents said =
 abbrev pub hover : TextRange → (said : List ℕ) → List Token
 hover r said = begin_object ∷ [] ++ contents said ++ range_member (codes "range") r ++ end_object ∷ []
 
--- tokens were written after those that stood
-abbrev pub Adds : (old new : List Token) → Type 0
+-- something was written after what stood
+abbrev pub Adds : {A : Type 0} → (old new : List A) → Type 0
 Adds old new = new ≡ old ++ drop (length old) new

@@ -1,4 +1,4 @@
--- The places of a name that an editor asks for, and the name at a position.
+-- The positions of a name that an editor asks for, and the name at a position.
 use Rattle.std.specs.Prelude.{◌≡◌, ◌⊎◌, ℕ, Bool, true, not, List, [], ◌∷◌, ◌++◌, Option, Some, None, filter, flat_map}
 use Rattle.std.specs.Prelude.{codes, string_bytes}
 use Rattle.json.specs.Token.{Token, begin_array, begin_object, end_array, end_object, null}
@@ -19,24 +19,24 @@ use Rattle.fmp_server.specs.declared.roles.NamePosition.{NamePosition}
 use Rattle.fmp_server.specs.Documents.{AreCut, bytes_of, text_in, tokens_of}
 use Rattle.fmp_server.specs.Messages.{answer, edits, location, member_begin}
 use Rattle.fmp_server.specs.Positions.{AreRanges, IsOffset}
-use Rattle.fmp_server.specs.Roles.{IsWordAt, named_at, positions_of, uses}
+use Rattle.fmp_server.specs.Roles.{IsLastWordAt, named_at, positions_of, uses}
 
--- a place is asked for
+-- a position is asked for
 abbrev pub wants : WantedPositions → (declares : Bool) → Bool
 wants wanted.Declarations d = d
 wants wanted.Uses d = not d
 wants wanted.All d = true
 
--- those of these places that are asked for
+-- those of these positions that are asked for
 abbrev pub wanted_of : WantedPositions → List NamePosition → List TokenPosition
 wanted_of w ps = positions_of (filter (λ (p : NamePosition). wants w p.declares) ps)
 
--- these places of a text, each as a location
+-- these positions of a text, each as a location
 abbrev pub AreLocations : (uri text : List ℕ) → List TokenPosition → List Token → Type 0
 AreLocations uri text ps out =
     (ranges : List TextRange) × AreRanges text ps ranges × (out ≡ flat_map (λ r. location uri r) ranges)
 
--- those places of a name in one text that are asked for, if the text is open
+-- those positions of a name in one text that are asked for, if the text is open
 abbrev pub AreLocationsIn : CutTexts → TextFile → Named → WantedPositions → Option Document → List Token → Type 0
 AreLocationsIn c f n w None out = out ≡ []
 AreLocationsIn c f n w (Some d) out =
@@ -55,17 +55,24 @@ pub record IsNamed (c : CutTexts) (p : Position) (n : Named) : Type 0 where
   pub offset : ℕ
   pub at : ℕ
   pub offset_is : IsOffset (bytes_of c.open c.open.file) p offset
-  pub word : IsWordAt (tokens_of c c.open.file) offset at
+  pub word : IsLastWordAt (tokens_of c c.open.file) offset at
   pub named : named_at c.open.file (kinds_of (tokens_of c c.open.file)) at ≡ Some n
 
--- The answer with the places of the name at a position that are asked for; or that there is none.
+-- no word stands at a position of the text that is meant, or one that is no name
+pub record HasNoName (c : CutTexts) (p : Position) : Type 0 where
+  pub offset : ℕ
+  pub offset_is : IsOffset (bytes_of c.open c.open.file) p offset
+  pub none : (at : ℕ) → IsLastWordAt (tokens_of c c.open.file) offset at
+      → named_at c.open.file (kinds_of (tokens_of c c.open.file)) at ≡ None
+
+-- The answer with the positions of the name at a position that are asked for; or null where there is no name.
 abbrev pub IsPositionsAnswer : OpenTexts → RequestId → Position → WantedPositions → List ℕ → Type 0
 IsPositionsAnswer o id p w bytes =
     (c : CutTexts) × AreCut o c
     × (((n : Named) × (out : List Token) × IsNamed c p n × AreAllLocations c n w out × (bytes ≡ answer id out))
-    ⊎ (bytes ≡ answer id (null ∷ [])))
+    ⊎ (HasNoName c p × (bytes ≡ answer id (null ∷ []))))
 
--- the edits of one text, if it is open: a name in place of each of the places of another
+-- the edits of one text, if it is open: a name in place of another, at each of its positions
 abbrev pub AreEditsIn : CutTexts → TextFile → Named → (name : List ℕ) → Option Document → List Token → Type 0
 AreEditsIn c f n name None out = out ≡ []
 AreEditsIn c f n name (Some d) out =

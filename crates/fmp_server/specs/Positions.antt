@@ -26,19 +26,24 @@ pub record IsRange (text : List ℕ) (line start end : ℕ) (r : TextRange) : Ty
   pub start_is : IsPosition text line (min start (length text)) r.start
   pub end_is : IsPosition text line (min end (length text)) r.end
 
--- what stands at each of these places, in order
+-- what stands at each of these positions, in order
 abbrev pub AreRanges : (text : List ℕ) → List TokenPosition → List TextRange → Type 0
 AreRanges text [] rs = rs ≡ []
 AreRanges text (p ∷ ps) rs =
     (r : TextRange) × (more : List TextRange) × (rs ≡ r ∷ more) × IsRange text (p.line - 1) p.start p.end r
     × AreRanges text ps more
 
+-- how many line feeds stand before a byte
+abbrev pub line_feeds : (text : List ℕ) → (at : ℕ) → ℕ
+line_feeds text at = count_by (λ b. b == 10) (take at text)
+
 -- The line of this number, from 0, begins here: after as many line feeds, of which one is the last byte before; or the
--- text ends here, which has no such line.
+-- text ends here, after fewer.
 pub record IsLineStart (text : List ℕ) (line begin : ℕ) : Type 0 where
   pub within : begin ≤ length text
-  pub line_is : begin < length text → count_by (λ b. b == 10) (take begin text) ≡ line
-  pub first : begin < length text → 0 < begin → (slice_index text (begin - 1) == 10) ≡ true
+  pub few : line_feeds text begin ≤ line
+  pub line_is : begin < length text → line_feeds text begin ≡ line
+  pub first : line_feeds text begin ≡ line → 0 < begin → (slice_index text (begin - 1) == 10) ≡ true
 
 -- The byte of a line at a character: the last one before which there are no more units, or before that the line feed.
 pub record IsColumn (rest : List ℕ) (character column : ℕ) : Type 0 where

@@ -22,7 +22,7 @@ use Rattle.fmp_server.specs.declared.roles.Role.TheVariants as role
 use Rattle.fmp_server.specs.declared.roles.RoleWalk.{RoleWalk}
 use Rattle.fmp_server.specs.Documents.{AreCut, tokens_of}
 use Rattle.fmp_server.specs.Messages.{answer, refused}
-use Rattle.fmp_server.specs.Navigation.{AreAllEdits, IsNamed}
+use Rattle.fmp_server.specs.Navigation.{AreAllEdits, HasNoName, IsNamed}
 use Rattle.fmp_server.specs.Roles.{is_exinf, is_name, role_of, start_of, walked}
 
 -- a text is a name, and no word of the language
@@ -73,13 +73,26 @@ pub record MayHave (c : CutTexts) (n : Named) (text : List ℕ) : Type 0 where
   pub other : is_exinf name ≡ false
   pub unused : is_used c name n.role ≡ false
 
+-- a text is no name, or a word of the language
+pub record IsNoNameText (text : List ℕ) : Type 0 where
+  pub tokens : List lex.Token
+  pub cut : HasTokens text tokens
+  pub none : (name : Name) → kinds_of tokens ≡ kind.Name name ∷ [] → name_text name ≡ text → ⊥
+
+-- what has a name may not have this one: it has no other name, the text is none, or the name is that of something else
+pub data MayNotHave (c : CutTexts) (n : Named) (text : List ℕ) : Type 0 where
+  fixed : is_fixed c.open n n.role ≡ true → MayNotHave c n text
+  no_name : IsNoNameText text → MayNotHave c n text
+  used : (name : Name) → IsNameText text name → (is_exinf name || is_used c name n.role) ≡ true → MayNotHave c n text
+
 -- The answer with the edits that give what stands at a position this name in both texts, which it may have; or a
--- refusal.
+-- refusal where no name stands there, or it may not have this one.
 abbrev pub IsRenamed : CutTexts → RequestId → Position → (text : List ℕ) → List ℕ → Type 0
 IsRenamed c id p text bytes =
     ((n : Named) × (out : List Token) × IsNamed c p n × MayHave c n text × AreAllEdits c n text out
     × (bytes ≡ answer id out))
-    ⊎ ((sentence : List ℕ) × (bytes ≡ refused (Some id) refusal.Failed sentence))
+    ⊎ ((HasNoName c p ⊎ ((n : Named) × IsNamed c p n × MayNotHave c n text))
+    × ((sentence : List ℕ) × (bytes ≡ refused (Some id) refusal.Failed sentence)))
 
 abbrev pub IsRenameAnswer : OpenTexts → RequestId → Position → (text : List ℕ) → List ℕ → Type 0
 IsRenameAnswer o id p text bytes = (c : CutTexts) × AreCut o c × IsRenamed c id p text bytes

@@ -15,7 +15,7 @@ use Rattle.fmp_server.specs.declared.positions.Position.{Position}
 use Rattle.fmp_server.specs.declared.requests.Query.{Query}
 use Rattle.fmp_server.specs.declared.requests.Query.TheVariants as query
 use Rattle.fmp_server.specs.Hovers.{IsHover}
-use Rattle.fmp_server.specs.Messages.{IsAnswered, IsPositionOf, answer, in_document, in_params, refused}
+use Rattle.fmp_server.specs.Messages.{HasSymbols, HasWords, IsPositionOf, answer, in_document, in_params, refused}
 use Rattle.fmp_server.specs.Navigation.{IsPositionsAnswer}
 use Rattle.fmp_server.specs.Renaming.{IsRenameAnswer}
 
@@ -65,7 +65,7 @@ abbrev pub is_true : Option Json → Bool
 is_true (Some (boolean b)) = b
 is_true _ = false
 
--- which places a message asks for: those of declarations too, if it says so
+-- which positions a message asks for: those of declarations too, if it says so
 abbrev pub wanted_in : Json → WantedPositions
 wanted_in m =
     if is_true (option_and_then (get (codes "includeDeclaration")) (in_params (codes "context") m))
@@ -77,9 +77,9 @@ IsRefused id r bytes = (sentence : List ℕ) × (bytes ≡ refused (Some id) r s
 
 -- the answer to what a message asks about a position of the texts of a system
 abbrev pub IsAnswerAt : Query → OpenTexts → RequestId → Json → Position → List ℕ → Type 0
-IsAnswerAt query.Outline o id m p bytes = IsAnswered id bytes
+IsAnswerAt query.Outline o id m p bytes = HasSymbols id bytes
 IsAnswerAt query.Hover o id m p bytes = IsHover o id p bytes
-IsAnswerAt query.Completion o id m p bytes = IsAnswered id bytes
+IsAnswerAt query.Completion o id m p bytes = HasWords id bytes
 IsAnswerAt query.Definition o id m p bytes = IsPositionsAnswer o id p wanted.Declarations bytes
 IsAnswerAt query.References o id m p bytes = IsPositionsAnswer o id p (wanted_in m) bytes
 IsAnswerAt query.Rename o id m p bytes =
@@ -87,13 +87,13 @@ IsAnswerAt query.Rename o id m p bytes =
     ⊎ (new_name_in m ≡ None) × IsRefused id refusal.WrongParameters bytes
 
 -- the answer to what a message asks that is about no position: it is refused, unless it needs none
-abbrev pub IsUnplacedAnswer : Query → RequestId → List ℕ → Type 0
-IsUnplacedAnswer query.Outline id bytes = IsAnswered id bytes
-IsUnplacedAnswer _ id bytes = IsRefused id refusal.WrongParameters bytes
+abbrev pub IsAnswerWithoutPosition : Query → RequestId → List ℕ → Type 0
+IsAnswerWithoutPosition query.Outline id bytes = HasSymbols id bytes
+IsAnswerWithoutPosition _ id bytes = IsRefused id refusal.WrongParameters bytes
 
 -- the same where the message may be about a position or not
 abbrev pub IsAnswerFor : Query → OpenTexts → RequestId → Json → Option Position → List ℕ → Type 0
-IsAnswerFor q o id m None bytes = IsUnplacedAnswer q id bytes
+IsAnswerFor q o id m None bytes = IsAnswerWithoutPosition q id bytes
 IsAnswerFor q o id m (Some p) bytes = IsAnswerAt q o id m p bytes
 
 -- the answer to what a message asks about the texts of a system, where the one that is meant may not be open

@@ -1,7 +1,7 @@
 -- What names in the texts stand for. A walk over the tokens of a text follows one name: what stands before the next
 -- token, whether the name is a variable of the body that was begun last, and how many bodies were begun.
-use Rattle.std.specs.Prelude.{◌≡◌, ℕ, ◌+◌, ◌≤◌, ◌==◌, ◌&&◌, ◌||◌, Bool, true, false, if◌then◌else◌, List, [], ◌∷◌}
-use Rattle.std.specs.Prelude.{◌++◌, Option, Some, None, codes, map, min, slice_get, take}
+use Rattle.std.specs.Prelude.{◌≡◌, ℕ, ◌+◌, ◌<◌, ◌≤◌, ◌==◌, ◌&&◌, ◌||◌, Bool, true, false, if◌then◌else◌, List, [], ◌∷◌}
+use Rattle.std.specs.Prelude.{◌++◌, Option, Some, None, codes, length, map, min, slice_get, take}
 use Rattle.std.specs.Str.{bytes_eq}
 use Rattle.fmp_base.specs.declared.names.Name.{Name}
 use Rattle.fmp_base.specs.Names.{name_text}
@@ -35,16 +35,16 @@ abbrev pub is_exinf : Name → Bool
 is_exinf name = bytes_eq (name_text name) (codes "exinf")
 
 -- a static API makes an object, but for that of an interrupt handler
-abbrev pub behind_api : Api → Before
-behind_api api.DefInh = before.Other
-behind_api _ = before.Maker
+abbrev pub after_api : Api → Before
+after_api api.DefInh = before.Other
+after_api _ = before.Maker
 
-abbrev pub behind_keyword : Keyword → Before
-behind_keyword keyword.Class = before.Class
-behind_keyword keyword.Task = before.Heading
-behind_keyword keyword.Handler = before.Heading
-behind_keyword keyword.Var = before.Variable
-behind_keyword _ = before.Other
+abbrev pub after_keyword : Keyword → Before
+after_keyword keyword.Class = before.Class
+after_keyword keyword.Task = before.Heading
+after_keyword keyword.Handler = before.Heading
+after_keyword keyword.Var = before.Variable
+after_keyword _ = before.Other
 
 -- the name of an object or of a class stands in the parenthesis after its word
 abbrev pub in_parenthesis : Before → Before
@@ -52,32 +52,32 @@ in_parenthesis before.Maker = before.Object
 in_parenthesis before.Class = before.ClassName
 in_parenthesis _ = before.Other
 
-abbrev pub behind_symbol : Before → Symbol → Before
-behind_symbol b symbol.LeftParen = in_parenthesis b
-behind_symbol b _ = before.Other
+abbrev pub after_symbol : Before → Symbol → Before
+after_symbol b symbol.LeftParen = in_parenthesis b
+after_symbol b _ = before.Other
 
 -- what stands before the token after this one
-abbrev pub behind : Before → TokenKind → Before
-behind b (kind.Api a) = behind_api a
-behind b (kind.Keyword k) = behind_keyword k
-behind b (kind.Symbol s) = behind_symbol b s
-behind b _ = before.Other
+abbrev pub before_next : Before → TokenKind → Before
+before_next b (kind.Api a) = after_api a
+before_next b (kind.Keyword k) = after_keyword k
+before_next b (kind.Symbol s) = after_symbol b s
+before_next b _ = before.Other
 
 -- another name in a configuration is that of a body; in a task text it is that of a variable, or else of an object
 abbrev pub other_role : RoleWalk → TextFile → Role
 other_role w file.Configuration = role.Body
 other_role w file.Source = if w.is_variable then role.Variable w.bodies else role.Object
 
-abbrev pub role_behind : RoleWalk → Before → Role
-role_behind w before.Object = role.Object
-role_behind w before.ClassName = role.Class
-role_behind w before.Heading = role.Body
-role_behind w before.Variable = role.Variable w.bodies
-role_behind w _ = other_role w w.file
+abbrev pub role_after : RoleWalk → Before → Role
+role_after w before.Object = role.Object
+role_after w before.ClassName = role.Class
+role_after w before.Heading = role.Body
+role_after w before.Variable = role.Variable w.bodies
+role_after w _ = other_role w w.file
 
 -- what the name stands for if it is the next token
 abbrev pub role_of : RoleWalk → Role
-role_of w = role_behind w w.before
+role_of w = role_after w w.before
 
 -- the name, if it is the next token, makes or declares what it stands for
 abbrev pub declares : Before → Bool
@@ -102,13 +102,13 @@ begun w =
 abbrev pub gone_on : RoleWalk → TokenKind → RoleWalk
 gone_on w k =
     record w {
-      before = behind w.before k;
+      before = before_next w.before k;
       is_variable = w.is_variable || (is_declaration w.before && is_name k w.name);
     }
 
 -- the walk after this token
 abbrev pub walked : RoleWalk → TokenKind → RoleWalk
-walked w k = if is_heading (behind w.before k) then begun w else gone_on w k
+walked w k = if is_heading (before_next w.before k) then begun w else gone_on w k
 
 abbrev pub same_role : Role → Role → Bool
 same_role role.Object role.Object = true
@@ -125,15 +125,20 @@ stands_for w r k = is_name k w.name && same_role (role_of w) r
 abbrev pub positions_of : List NamePosition → List TokenPosition
 positions_of ps = map (λ (p : NamePosition). p.position) ps
 
--- the place of a token, at which the walk stands
-abbrev pub place_of : RoleWalk → Token → NamePosition
-place_of w t = record { position = position_of t; declares = declares w.before }
+-- the position of a token, at which the walk stands
+abbrev pub name_position : RoleWalk → Token → NamePosition
+name_position w t = record { position = position_of t; declares = declares w.before }
 
--- of these tokens, from the walk on, the places of those at which the name stands for this
+-- that of the next token, if there is one
+abbrev pub positions_at : RoleWalk → Option Token → List NamePosition
+positions_at w None = []
+positions_at w (Some t) = name_position w t ∷ []
+
+-- of these tokens, from the walk on, the positions of those at which the name stands for this
 abbrev pub named_positions : RoleWalk → Role → List Token → List NamePosition
 named_positions w r [] = []
 named_positions w r (t ∷ ts) =
-    (if stands_for w r t.kind then place_of w t ∷ [] else []) ++ named_positions (walked w t.kind) r ts
+    (if stands_for w r t.kind then name_position w t ∷ [] else []) ++ named_positions (walked w t.kind) r ts
 
 -- the beginning of a text
 abbrev pub start_of : TextFile → Name → RoleWalk
@@ -185,3 +190,27 @@ pub record IsWordAt (ts : List Token) (offset at : ℕ) : Type 0 where
   pub word : is_word token.kind ≡ true
   pub begins : token.start ≤ offset
   pub ends : offset ≤ token.end
+
+-- the last such token
+pub record IsLastWordAt (ts : List Token) (offset at : ℕ) : Type 0 where
+  pub word : IsWordAt ts offset at
+  pub last : (k : ℕ) → at < k → IsWordAt ts offset k → ⊥
+
+-- there is none
+abbrev pub HasNoWordAt : List Token → (offset : ℕ) → Type 0
+HasNoWordAt ts offset = (at : ℕ) → IsWordAt ts offset at → ⊥
+
+-- each token but the last has a byte, and ends before the next begins
+pub record AreInOrder (ts : List Token) : Type 0 where
+  pub each : (i j : ℕ) (s t : Token) → i < j → slice_get ts i ≡ Some s → slice_get ts j ≡ Some t
+      → (s.start < s.end) × (s.end ≤ t.start)
+
+-- the token at this place begins before a byte, or at it
+abbrev pub IsBegunAt : List Token → (offset at : ℕ) → Type 0
+IsBegunAt ts offset at = (t : Token) × (slice_get ts at ≡ Some t) × (t.start ≤ offset)
+
+-- the first tokens, as many as counted, begin before a byte or at it, and no others
+pub record AreBegunAt (ts : List Token) (offset count : ℕ) : Type 0 where
+  pub within : count ≤ length ts
+  pub begun : (k : ℕ) (t : Token) → k < count → slice_get ts k ≡ Some t → t.start ≤ offset
+  pub others : (k : ℕ) (t : Token) → count ≤ k → slice_get ts k ≡ Some t → offset < t.start

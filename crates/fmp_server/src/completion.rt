@@ -1,18 +1,20 @@
 //! The words that may stand at a position.
-ghost use Rattle.std.specs.Prelude.{◌≡◌, IfOk, OnOk};
-ghost use Rattle.fmp_server.specs.Messages.{Adds, IsAnswered};
+ghost use Rattle.std.specs.Prelude.{◌≡◌, ◌++◌, List, IfOk, OnOk};
+ghost use Rattle.json.specs.Token as json;
+ghost use Rattle.fmp_server.specs.Messages.{Adds, HasWords, word_list};
+ghost use Rattle.fmp_server.specs.Roles.{AreInOrder};
 
 use crate::documents::OpenTexts;
 use crate::messages::{RequestId, begin_answer, finish};
 use crate::outline::letters;
 use crate::positions::{Position, offset_at};
 use crate::roles::begun_at;
-use crate::sayings::{append, append_all, append_call, append_number};
+use crate::sayings::{append_all, append_call};
 use fmp_base::{Name, SERVICES};
 use fmp_diagnosis::apis::{api_at, object_name};
 use fmp_diagnosis::around::{begins_body_at, list_of, name_at};
 use fmp_diagnosis::fields::{Field, fields_of, object_of};
-use fmp_json::{begin_list, number_member, text_member};
+use fmp_json::{append, append_signed, begin_list, number_member, text_member};
 use fmp_lex::words::{APIS, CONSTANTS, KEYWORDS};
 use fmp_lex::{Api, Keyword, TextFile, TokenKind, Tokens};
 use json::Writer;
@@ -80,7 +82,7 @@ fn append_fields(api: Api, out: &mut Vec<u8>) -> Result<(), AllocError> {
     for (place, field) in fields_of(api).iter().enumerate() {
         append_all(&[before_field(place), word_of_field(*field)], out)?;
     }
-    append(" })", out)
+    append(b" })", out)
 }
 
 /// Writes the static APIs with their fields.
@@ -106,7 +108,7 @@ fn write_constants(alloc: Global, writer: &mut Writer) -> Result<(), AllocError>
 {
     for constant in &CONSTANTS {
         let mut number = Vec::new(alloc);
-        append_number(i64::from(constant.value()), &mut number)?;
+        append_signed(i64::from(constant.value()), &mut number)?;
         let number = String::from_utf8_lossy(alloc, &number)?;
         write_item(writer, constant.name(), CONSTANT, number.as_str())?;
     }
@@ -193,6 +195,7 @@ fn write_variables(
     tokens: &Tokens<'_>,
     offset: usize,
 ) -> Result<(), AllocError>
+    requires { AreInOrder tokens.now }
     ensures before { writer.new.before ≡ writer.old.before }
     ensures tokens { OnOk result (Adds writer.old.tokens writer.new.tokens) }
 {
@@ -260,7 +263,6 @@ fn write_words(
 }
 
 /// Writes these words as a list that is whole.
-#[tactic(auto, using(crate::proofs::Adding::adding))]
 fn write_list(
     alloc: Global,
     writer: &mut Writer,
@@ -268,7 +270,8 @@ fn write_list(
     position: Position,
 ) -> Result<(), AllocError>
     ensures before { writer.new.before ≡ writer.old.before }
-    ensures tokens { OnOk result (Adds writer.old.tokens writer.new.tokens) }
+    ensures tokens { OnOk result ((words : List json.Token)
+        × (writer.new.tokens ≡ writer.old.tokens ++ word_list words)) }
 {
     writer.begin_object()?;
     writer.key("isIncomplete")?;
@@ -287,7 +290,7 @@ pub fn completion(
     id: RequestId<'_>,
     position: Position,
 ) -> Result<Vec<u8>, AllocError>
-    ensures { IfOk result (λ bytes. IsAnswered id.entry bytes.items) }
+    ensures { IfOk result (λ bytes. HasWords id.entry bytes.items) }
 {
     let mut writer = begin_answer(alloc, id)?;
     write_list(alloc, &mut writer, open, position)?;

@@ -4,7 +4,7 @@ ghost use Rattle.std.specs.Option.{option_to_list};
 ghost use Rattle.fmp_server.specs.Framing as spec;
 ghost use Rattle.fmp_server.specs.Framing.{fed, framed, fresh, part_of};
 
-use itoa::Buffer;
+use fmp_json::{append, append_number};
 use std::alloc::{AllocError, Global};
 use std::mem;
 
@@ -99,7 +99,7 @@ impl Framing {
 
     /// Takes the end of a line of a header. After an empty line the message begins.
     fn end_line(&mut self)
-        ensures { part_of self.new ≡ spec.behind_line (part_of self.old) }
+        ensures { part_of self.new ≡ spec.after_line (part_of self.old) }
     {
         if self.line.is_empty() {
             self.left = self.length;
@@ -199,8 +199,8 @@ impl Framing {
 pub fn append_framed(message: &[u8], out: &mut Vec<u8>) -> Result<(), AllocError>
     ensures { OnOk result (out.new.items ≡ out.old.items ++ framed message.now) }
 {
-    out.extend_from_slice(b"Content-Length: ")?;
-    out.extend_from_slice(Buffer::new().format(message.len() as u64).as_bytes())?;
-    out.extend_from_slice(b"\r\n\r\n")?;
-    out.extend_from_slice(message)
+    append(b"Content-Length: ", out)?;
+    append_number(message.len() as u64, out)?;
+    append(b"\r\n\r\n", out)?;
+    append(message, out)
 }

@@ -1,6 +1,8 @@
 //! What is said of the word at a position.
-ghost use Rattle.std.specs.Prelude.{◌≡◌, ◌++◌, IfOk, OnOk};
-ghost use Rattle.fmp_server.specs.Hovers.{IsHover, IsHoverAt, IsSaid};
+ghost use Rattle.std.specs.Prelude.{◌≡◌, ◌++◌, ◌<◌, IfOk, OnOk, length, slice_get};
+ghost use Rattle.std.specs.Str.Lossy.{utf8_lossy};
+ghost use Rattle.fmp_lex.specs.Reading.{kinds_of};
+ghost use Rattle.fmp_server.specs.Hovers.{IsHover, IsHoverAt, Says};
 ghost use Rattle.fmp_server.specs.Messages as message;
 
 use crate::documents::OpenTexts;
@@ -65,7 +67,9 @@ fn say_word(
     tokens: &Tokens<'_>,
     at: usize,
     out: &mut Vec<u8>,
-) -> Result<(), AllocError> {
+) -> Result<(), AllocError>
+    ensures { OnOk result (Says (slice_get (kinds_of tokens.now) at) out.old.items out.new.items) }
+{
     match tokens.kind(at) {
         Some(TokenKind::Service(service)) => say_call(service, out),
         Some(TokenKind::Api(api)) => say_api(api, out),
@@ -107,7 +111,7 @@ fn answer(
     range: TextRange,
     said: &[u8],
 ) -> Result<Vec<u8>, AllocError>
-    ensures { IfOk result (λ bytes. IsSaid id.entry range bytes.items) }
+    ensures { IfOk result (λ bytes. bytes.items ≡ message.answer id.entry (message.hover range (utf8_lossy said.now))) }
 {
     let said = String::from_utf8_lossy(alloc, said)?;
     let mut writer = begin_answer(alloc, id)?;
@@ -123,16 +127,20 @@ fn answer_at(
     tokens: &Tokens<'_>,
     at: usize,
 ) -> Result<Vec<u8>, AllocError>
+    requires { at < length tokens.now }
     ensures { IfOk result (λ bytes. IsHoverAt «open».entry id.entry tokens.now at bytes.items) }
 {
     let mut said = Vec::new(alloc);
     say_word(alloc, open, tokens, at, &mut said)?;
+    if said.is_empty() {
+        return null_answer(alloc, id);
+    }
     match tokens.position(at) {
-        Some(position) if !said.is_empty() => {
+        Some(position) => {
             let text = open.bytes_of(open.file);
             answer(alloc, id, range_of(text, position), &said)
         }
-        _ => null_answer(alloc, id),
+        None => null_answer(alloc, id),
     }
 }
 

@@ -1,12 +1,12 @@
 //! Where what a name stands for is made, and where it is used.
-ghost use Rattle.std.specs.Prelude.{◌≡◌, ◌-◌, ◌++◌, List, IfOk, IfSome, OnOk};
+ghost use Rattle.std.specs.Prelude.{◌≡◌, ◌-◌, ◌++◌, List, IfOk, MatchOption, OnOk};
 ghost use Rattle.std.specs.Bool.{MatchBool};
 ghost use Rattle.json.specs.Token as json;
 ghost use Rattle.fmp_server.specs.declared.positions.TextRange.{TextRange};
-ghost use Rattle.fmp_server.specs.Documents.{text_in};
+ghost use Rattle.fmp_server.specs.Documents.{AreCut, text_in};
 ghost use Rattle.fmp_server.specs.Messages as message;
 ghost use Rattle.fmp_server.specs.Navigation as spec;
-ghost use Rattle.fmp_server.specs.Navigation.{AreAllLocations, AreLocations, AreLocationsIn, IsNamed};
+ghost use Rattle.fmp_server.specs.Navigation.{AreAllLocations, AreLocations, AreLocationsIn, HasNoName, IsNamed};
 ghost use Rattle.fmp_server.specs.Navigation.{IsPositionsAnswer};
 ghost use Rattle.fmp_server.specs.Positions.{IsRange};
 
@@ -19,7 +19,7 @@ use fmp_lex::TextFile;
 use json::Writer;
 use std::alloc::{AllocError, Global};
 
-/// Which places of a name are asked for.
+/// Which positions of a name are asked for.
 #[derive(Clone, Copy)]
 pub enum WantedPositions {
     /// Where it is made or declared.
@@ -30,7 +30,7 @@ pub enum WantedPositions {
 }
 
 impl WantedPositions {
-    /// Whether a place is asked for.
+    /// Whether a position is asked for.
     fn wants(self, declares: bool) -> bool
         ensures { result ≡ spec.wants self declares }
     {
@@ -44,7 +44,8 @@ impl WantedPositions {
 
 /// What the name at a position of the text that is meant stands for.
 pub fn named_in(cut: &CutTexts<'_>, position: Position) -> Option<Named>
-    ensures { IfSome result (IsNamed cut.now position) }
+    requires { AreCut cut.now.open cut.now }
+    ensures { MatchOption result (HasNoName cut.now position) (IsNamed cut.now position) }
 {
     let file = cut.open.file;
     let tokens = cut.tokens(file);
@@ -52,7 +53,7 @@ pub fn named_in(cut: &CutTexts<'_>, position: Position) -> Option<Named>
     named_at(tokens, file, at)
 }
 
-/// Writes a place of a text as a location, if it is asked for.
+/// Writes a position of a text as a location, if it is asked for.
 fn write_wanted(
     writer: &mut Writer,
     uri: &str,
@@ -73,7 +74,7 @@ fn write_wanted(
     }
 }
 
-/// Writes those of these places of a text that are asked for.
+/// Writes those of these positions of a text that are asked for.
 fn write_locations(
     writer: &mut Writer,
     uri: &str,
@@ -92,7 +93,7 @@ fn write_locations(
     Ok(())
 }
 
-/// Writes the places of a name in one text.
+/// Writes the positions of a name in one text.
 fn write_positions(
     alloc: Global,
     writer: &mut Writer,
@@ -114,7 +115,7 @@ fn write_positions(
     write_locations(writer, document.uri.as_str(), text, &positions, wanted)
 }
 
-/// Writes those places of a name that are asked for, of both texts.
+/// Writes those positions of a name that are asked for, of both texts.
 fn write_all_positions(
     alloc: Global,
     writer: &mut Writer,
@@ -132,7 +133,7 @@ fn write_all_positions(
     writer.end_array()
 }
 
-/// The answer with those places of a name that are asked for, of both texts.
+/// The answer with those positions of a name that are asked for, of both texts.
 fn answer(
     alloc: Global,
     cut: &CutTexts<'_>,
@@ -148,7 +149,7 @@ fn answer(
     finish(writer)
 }
 
-/// The answer with those places of the name at a position that are asked for, of both texts. `AllocError` if memory
+/// The answer with those positions of the name at a position that are asked for, of both texts. `AllocError` if memory
 /// runs out.
 pub fn positions(
     alloc: Global,

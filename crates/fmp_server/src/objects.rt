@@ -1,9 +1,10 @@
 //! What a hover says of an object, a body or a variable, by the tokens of the texts.
-use crate::sayings::{append, append_all, append_code, append_number};
+use crate::sayings::{append_all, append_code};
 use fmp_base::Name;
 use fmp_diagnosis::apis::{api_at, begin_of, entry_of, is_symbol, object_name, value_last};
 use fmp_diagnosis::around::{begins_body_at, is_same, name_at};
 use fmp_diagnosis::fields::{Field, fields_of, object_of};
+use fmp_json::{append, append_signed};
 use fmp_lex::{Api, Keyword, Symbol, TokenKind, Tokens};
 use std::alloc::AllocError;
 
@@ -69,7 +70,7 @@ fn say_field(
 fn say_class_of(tokens: &Tokens<'_>, at: usize, out: &mut Vec<u8>) -> Result<(), AllocError> {
     match class_at(tokens, at) {
         Some(class) => {
-            append(", in class ", out)?;
+            append(b", in class ", out)?;
             append_code(class.as_bytes(), out)
         }
         None => Ok(()),
@@ -83,7 +84,7 @@ fn say_fields(
     (api, at): (Api, usize),
     out: &mut Vec<u8>,
 ) -> Result<(), AllocError> {
-    append("\n", out)?;
+    append(b"\n", out)?;
     for field in fields_of(api) {
         if *field != Field::Name && *field != Field::Null {
             say_field(text, tokens, (api, at), *field, out)?;
@@ -102,7 +103,7 @@ fn say_made(
 ) -> Result<(), AllocError> {
     append_code(name.as_bytes(), out)?;
     append_all(&[": ", object_of(api), ", number "], out)?;
-    append_number(number_of(tokens, api, at), out)?;
+    append_signed(number_of(tokens, api, at), out)?;
     say_class_of(tokens, at, out)?;
     say_fields(text, tokens, (api, at), out)
 }
@@ -149,10 +150,10 @@ fn say_entry(
     if entry_of(tokens, at, api) != Some(body) {
         return Ok(());
     }
-    append("\n- the entry of ", out)?;
+    append(b"\n- the entry of ", out)?;
     match object_name(tokens, at) {
         Some(name) => append_code(name.as_bytes(), out),
-        None => append(object_of(api), out),
+        None => append(object_of(api).as_bytes(), out),
     }
 }
 
@@ -164,11 +165,11 @@ pub fn say_body(
     out: &mut Vec<u8>,
 ) -> Result<(), AllocError> {
     append_code(name.as_bytes(), out)?;
-    append(": ", out)?;
+    append(b": ", out)?;
     if let Some(keyword) = heading_of(src, name) {
         append_all(&["a ", keyword.name(), " "], out)?;
     }
-    append("body\n", out)?;
+    append(b"body\n", out)?;
     for at in 0..cfg.len() {
         say_entry(cfg, at, name, out)?;
     }
@@ -222,19 +223,19 @@ pub fn say_variable(
         return Ok(());
     };
     append_code(name.as_bytes(), out)?;
-    append(": a variable, place ", out)?;
-    append_number(first, out)?;
+    append(b": a variable, place ", out)?;
+    append_signed(first, out)?;
     if count > 1 {
-        append(" to ", out)?;
-        append_number(first.saturating_add(count).saturating_sub(1), out)?;
+        append(b" to ", out)?;
+        append_signed(first.saturating_add(count).saturating_sub(1), out)?;
     }
-    append(" of 0 to 63", out)
+    append(b" of 0 to 63", out)
 }
 
 /// Says what `exinf` is.
 pub fn say_exinf(out: &mut Vec<u8>) -> Result<(), AllocError> {
     append(
-        "`exinf`: the extended information of the static API, place 0 of 0 to 63",
+        b"`exinf`: the extended information of the static API, place 0 of 0 to 63",
         out,
     )
 }

@@ -1,6 +1,7 @@
 //! What a text makes: the objects of a configuration, the bodies of a task text.
-ghost use Rattle.std.specs.Prelude.{◌≡◌, IfOk, OnOk};
-ghost use Rattle.fmp_server.specs.Messages.{Adds, IsAnswered};
+ghost use Rattle.std.specs.Prelude.{◌≡◌, ◌++◌, List, IfOk, OnOk};
+ghost use Rattle.json.specs.Token as json;
+ghost use Rattle.fmp_server.specs.Messages.{Adds, HasSymbols, symbol_list};
 
 use crate::documents::OpenTexts;
 use crate::messages::{RequestId, begin_answer, finish};
@@ -45,9 +46,9 @@ pub fn letters(name: &Name) -> &str {
 
 /// The place of the semicolon after a place, or of the last token.
 fn end_of_api(tokens: &Tokens<'_>, at: usize) -> usize {
-    for behind in at..tokens.len() {
-        if is_symbol(tokens, behind, Symbol::Semicolon) {
-            return behind;
+    for end in at..tokens.len() {
+        if is_symbol(tokens, end, Symbol::Semicolon) {
+            return end;
         }
     }
     tokens.len().saturating_sub(1)
@@ -55,9 +56,9 @@ fn end_of_api(tokens: &Tokens<'_>, at: usize) -> usize {
 
 /// The place of the last token before the body after the one that begins at a place.
 fn end_of_body(tokens: &Tokens<'_>, at: usize) -> usize {
-    for behind in at.saturating_add(1)..tokens.len() {
-        if begins_body_at(tokens, behind) {
-            return behind.saturating_sub(1);
+    for next in at.saturating_add(1)..tokens.len() {
+        if begins_body_at(tokens, next) {
+            return next.saturating_sub(1);
         }
     }
     tokens.len().saturating_sub(1)
@@ -151,28 +152,38 @@ fn write_entry(
     }
 }
 
-/// Writes what a text makes, as a list.
+/// Writes what a text makes, each as a symbol.
 #[tactic(auto, using(crate::proofs::Adding::adding))]
 fn write_entries(writer: &mut Writer, text: &[u8], tokens: &Tokens<'_>) -> Result<(), AllocError>
     ensures before { writer.new.before ≡ writer.old.before }
     ensures tokens { OnOk result (Adds writer.old.tokens writer.new.tokens) }
 {
-    writer.begin_array()?;
     for at in 0..tokens.len() {
         if let Some(entry) = entry_at(tokens, at) {
             write_entry(writer, text, tokens, &entry)?;
         }
     }
+    Ok(())
+}
+
+/// Writes what a text makes, as a list.
+fn write_symbols(writer: &mut Writer, text: &[u8], tokens: &Tokens<'_>) -> Result<(), AllocError>
+    ensures before { writer.new.before ≡ writer.old.before }
+    ensures tokens { OnOk result ((symbols : List json.Token)
+        × (writer.new.tokens ≡ writer.old.tokens ++ symbol_list symbols)) }
+{
+    writer.begin_array()?;
+    write_entries(writer, text, tokens)?;
     writer.end_array()
 }
 
 /// The answer with what the text that is meant makes, in order. `AllocError` if memory runs out.
 pub fn outline(alloc: Global, open: OpenTexts<'_>, id: RequestId<'_>) -> Result<Vec<u8>, AllocError>
-    ensures { IfOk result (λ bytes. IsAnswered id.entry bytes.items) }
+    ensures { IfOk result (λ bytes. HasSymbols id.entry bytes.items) }
 {
     let text = open.bytes_of(open.file);
     let list = list_of(alloc, text)?;
     let mut writer = begin_answer(alloc, id)?;
-    write_entries(&mut writer, text, &list.tokens)?;
+    write_symbols(&mut writer, text, &list.tokens)?;
     finish(writer)
 }

@@ -94,7 +94,7 @@ fn is_true(value: Option<&Value<'_>>) -> bool
     }
 }
 
-/// Which places a message asks for: those of declarations too, if it says so.
+/// Which positions a message asks for: those of declarations too, if it says so.
 pub fn wanted_by(message: &Value<'_>) -> WantedPositions
     ensures { result ≡ spec.wanted_in (value_view message.now) }
 {

@@ -6,7 +6,7 @@ ghost use Rattle.fmp_server.specs.Positions.{IsColumn, IsLineStart, IsOffset, Is
 
 use fmp_lex::TokenPosition;
 
-/// A place between two bytes of a text, as editors tell it.
+/// A position between two bytes of a text, as editors tell it.
 #[derive(Clone, Copy)]
 pub struct Position {
     /// The line, from 0: how many line feeds stand before.
@@ -47,7 +47,7 @@ fn width(bytes: &[u8]) -> u64
     width
 }
 
-/// Where the line begins that holds a place.
+/// Where the line begins that holds a position.
 fn line_begin(text: &[u8], at: usize) -> usize
     requires { at ≤ length text.now }
     ensures from { result ≤ at }
@@ -86,7 +86,7 @@ pub fn range_in(text: &[u8], line: u64, start: usize, end: usize) -> TextRange
     }
 }
 
-/// What stands at a place of a text.
+/// What stands at a position of a text.
 pub fn range_of(text: &[u8], position: TokenPosition) -> TextRange
     ensures { IsRange text.now (position.line - 1) position.start position.end result }
 {

@@ -1,13 +1,15 @@
 //! Another name for an object, a body or a variable, in both texts.
-ghost use Rattle.std.specs.Prelude.{◌≡◌, ◌+◌, ◌||◌, ◌∷◌, [], ◌++◌, List, None, IfOk, IfSome, OnOk, drop, is_some};
+ghost use Rattle.std.specs.Prelude.{◌≡◌, ◌+◌, ◌||◌, ◌∷◌, [], ◌++◌, List, IfOk, MatchOption, OnOk, drop, is_some};
 ghost use Rattle.json.specs.Token as json;
+ghost use Rattle.fmp_base.specs.declared.names.Name.{Name};
 ghost use Rattle.fmp_lex.specs.declared.token.TokenKind.TheVariants as kind;
 ghost use Rattle.fmp_lex.specs.Reading.{kinds_of};
-ghost use Rattle.fmp_server.specs.Documents.{text_in};
+ghost use Rattle.fmp_server.specs.Documents.{AreCut, text_in};
 ghost use Rattle.fmp_server.specs.Messages as message;
 ghost use Rattle.fmp_server.specs.Navigation.{AreAllEdits, AreBothEdits, AreEditsIn};
 ghost use Rattle.fmp_server.specs.Renaming as spec;
-ghost use Rattle.fmp_server.specs.Renaming.{IsNameText, IsRenameAnswer, IsRenamed, MayHave, is_used_from};
+ghost use Rattle.fmp_server.specs.Renaming.{IsNameText, IsNoNameText, IsRenameAnswer, IsRenamed, MayHave};
+ghost use Rattle.fmp_server.specs.Renaming.{MayNotHave, is_used_from};
 ghost use Rattle.fmp_server.specs.Roles.{start_of};
 
 use crate::documents::{CutTexts, OpenTexts};
@@ -37,7 +39,8 @@ const USED: &str = "the new name stands in the texts already";
 /// The name that is the only token, if it is one.
 #[tactic(auto, using(crate::proofs::Naming::only_kind))]
 fn only_name(tokens: &Tokens<'_>) -> Option<Name>
-    ensures { IfSome result (λ name. kinds_of tokens.now ≡ kind.Name name ∷ []) }
+    ensures { MatchOption result ((name : Name) → kinds_of tokens.now ≡ kind.Name name ∷ [] → ⊥)
+        (λ name. kinds_of tokens.now ≡ kind.Name name ∷ []) }
 {
     match tokens.kind(0) {
         Some(TokenKind::Name(name)) if tokens.len() == 1 => Some(name),
@@ -47,7 +50,7 @@ fn only_name(tokens: &Tokens<'_>) -> Option<Name>
 
 /// The name that a text is, if it is one and no word of the language.
 fn name_of(alloc: Global, text: &str) -> Result<Option<Name>, AllocError>
-    ensures { IfOk result (λ name. IfSome name (IsNameText text.now)) }
+    ensures { IfOk result (λ name. MatchOption name (IsNoNameText text.now) (IsNameText text.now)) }
 {
     let list = list_of(alloc, text.as_bytes())?;
     match only_name(&list.tokens) {
@@ -131,7 +134,8 @@ fn hindrance(
     named: Named,
     text: &str,
 ) -> Result<Option<&'static str>, AllocError>
-    ensures { IfOk result (λ why. why ≡ None → MayHave cut.now named text.now) }
+    ensures { IfOk result (λ why.
+        MatchOption why (MayHave cut.now named text.now) (λ _. MayNotHave cut.now named text.now)) }
 {
     if let Some(why) = fixed(cut.open, named) {
         return Ok(Some(why));
@@ -224,6 +228,7 @@ fn renamed(
     position: Position,
     text: &str,
 ) -> Result<Vec<u8>, AllocError>
+    requires { AreCut cut.now.open cut.now }
     ensures { IfOk result (λ bytes. IsRenamed cut.now id.entry position text.now bytes.items) }
 {
     let Some(named) = named_in(cut, position) else {

@@ -7,7 +7,7 @@ ghost use Rattle.fmp_server.specs.declared.requests.Query.TheVariants as query;
 ghost use Rattle.fmp_server.specs.Documents.{text_in};
 ghost use Rattle.fmp_server.specs.Messages.{IsPositionOf};
 ghost use Rattle.fmp_server.specs.Requests as spec;
-ghost use Rattle.fmp_server.specs.Requests.{IsAnswerAt, IsAnswerFor, IsAnswerOn, IsRefused, IsUnplacedAnswer};
+ghost use Rattle.fmp_server.specs.Requests.{IsAnswerAt, IsAnswerFor, IsAnswerOn, IsRefused, IsAnswerWithoutPosition};
 
 use crate::completion::completion;
 use crate::documents::OpenTexts;
@@ -99,13 +99,13 @@ pub fn refused_parameters(alloc: Global, id: RequestId<'_>) -> Result<Vec<u8>, A
 }
 
 /// The answer to a request that is about no position.
-fn unplaced_answer(
+fn answer_without_position(
     alloc: Global,
     open: OpenTexts<'_>,
     id: RequestId<'_>,
     query: Query,
 ) -> Result<Vec<u8>, AllocError>
-    ensures { IfOk result (λ bytes. IsUnplacedAnswer query id.entry bytes.items) }
+    ensures { IfOk result (λ bytes. IsAnswerWithoutPosition query id.entry bytes.items) }
 {
     match query {
         Query::Outline => outline(alloc, open, id),
@@ -126,7 +126,7 @@ fn answer_for(
 {
     match position_of(message) {
         Some(position) => answer_at(alloc, open, id, query, message, position),
-        None => unplaced_answer(alloc, open, id, query),
+        None => answer_without_position(alloc, open, id, query),
     }
 }
 

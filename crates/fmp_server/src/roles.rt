@@ -1,7 +1,9 @@
 //! What a name in a text stands for, and where else it stands for the same.
-ghost use Rattle.std.specs.Prelude.{◌≡◌, ◌<◌, ◌+◌, ◌++◌, IfOk, IfSome, IsTrue, OnOk, Some, drop, length, slice_get};
+ghost use Rattle.std.specs.Bool.{Decides};
+ghost use Rattle.std.specs.Prelude.{◌≡◌, ◌<◌, ◌+◌, ◌++◌, IfOk, MatchOption, OnOk, drop, length, slice_get};
 ghost use Rattle.fmp_lex.specs.Reading.{kinds_of};
 ghost use Rattle.fmp_server.specs.Roles as spec;
+ghost use Rattle.fmp_server.specs.Roles.{AreBegunAt, AreInOrder, HasNoWordAt, IsBegunAt, IsLastWordAt};
 ghost use Rattle.fmp_server.specs.Roles.{IsWordAt, named_positions, start_of, walked};
 
 use fmp_base::Name;
@@ -110,8 +112,8 @@ pub fn is_exinf(name: Name) -> bool
     name.as_bytes() == b"exinf".as_slice()
 }
 
-fn behind_api(api: Api) -> Before
-    ensures { result ≡ spec.behind_api api }
+fn after_api(api: Api) -> Before
+    ensures { result ≡ spec.after_api api }
 {
     match api {
         Api::DefInh => Before::Other,
@@ -119,8 +121,8 @@ fn behind_api(api: Api) -> Before
     }
 }
 
-fn behind_keyword(keyword: Keyword) -> Before
-    ensures { result ≡ spec.behind_keyword keyword }
+fn after_keyword(keyword: Keyword) -> Before
+    ensures { result ≡ spec.after_keyword keyword }
 {
     match keyword {
         Keyword::Class => Before::Class,
@@ -130,8 +132,8 @@ fn behind_keyword(keyword: Keyword) -> Before
     }
 }
 
-fn behind_symbol(before: Before, symbol: Symbol) -> Before
-    ensures { result ≡ spec.behind_symbol before symbol }
+fn after_symbol(before: Before, symbol: Symbol) -> Before
+    ensures { result ≡ spec.after_symbol before symbol }
 {
     match (before, symbol) {
         (Before::Maker, Symbol::LeftParen) => Before::Object,
@@ -141,13 +143,13 @@ fn behind_symbol(before: Before, symbol: Symbol) -> Before
 }
 
 /// What stands before the token after this one.
-fn behind(before: Before, kind: TokenKind) -> Before
-    ensures { result ≡ spec.behind before kind }
+fn before_next(before: Before, kind: TokenKind) -> Before
+    ensures { result ≡ spec.before_next before kind }
 {
     match kind {
-        TokenKind::Api(api) => behind_api(api),
-        TokenKind::Keyword(keyword) => behind_keyword(keyword),
-        TokenKind::Symbol(symbol) => behind_symbol(before, symbol),
+        TokenKind::Api(api) => after_api(api),
+        TokenKind::Keyword(keyword) => after_keyword(keyword),
+        TokenKind::Symbol(symbol) => after_symbol(before, symbol),
         _ => Before::Other,
     }
 }
@@ -218,14 +220,14 @@ impl RoleWalk {
             _ => false,
         };
         self.is_variable = self.is_variable || is_declared;
-        self.before = behind(self.before, kind);
+        self.before = before_next(self.before, kind);
     }
 
     /// Takes the next token.
     pub fn take(&mut self, kind: TokenKind)
         ensures { self.new ≡ walked self.old kind }
     {
-        match behind(self.before, kind) {
+        match before_next(self.before, kind) {
             Before::Heading => self.begin(),
             _ => self.go_on(kind),
         }
@@ -277,36 +279,25 @@ fn may_stand_in(named: Named, file: TextFile) -> bool
     }
 }
 
-/// Adds the place of the next token of a walk, which is of this kind, if the name stands for this there.
-#[tactic(auto, using(crate::proofs::Naming::passed, crate::proofs::Naming::named, crate::proofs::Naming::placed))]
+/// Adds the position of the next token of a walk.
 fn add_position(
     tokens: &Tokens<'_>,
     at: usize,
-    kind: TokenKind,
     walk: &RoleWalk,
-    role: Role,
     positions: &mut Vec<NamePosition>,
 ) -> Result<(), AllocError>
-    requires { slice_get (kinds_of tokens.now) at ≡ Some kind }
-    ensures { OnOk result (
-        positions.new.items ++ named_positions (walked walk.now kind) role (drop (at + 1) tokens.now)
-        ≡ positions.old.items ++ named_positions walk.now role (drop at tokens.now)) }
+    ensures { OnOk result (positions.new.items
+        ≡ positions.old.items ++ spec.positions_at walk.now (slice_get tokens.now at)) }
 {
-    if !walk.stands_for(role, kind) {
-        return Ok(());
+    if let Some(position) = tokens.position(at) {
+        let declares = walk.declares();
+        positions.push(NamePosition { position, declares })?;
     }
-    match tokens.position(at) {
-        Some(position) => {
-            let declares = walk.declares();
-            positions.push(NamePosition { position, declares })?;
-            Ok(())
-        }
-        None => Ok(()),
-    }
+    Ok(())
 }
 
-/// Takes the next token: adds its place if the name stands for this there, and moves the walk after it.
-#[tactic(auto, using(crate::proofs::Naming::kind_held))]
+/// Takes the next token: adds its position if the name stands for this there, and moves the walk after it.
+#[tactic(auto, using(crate::proofs::Naming::kind_held, crate::proofs::Naming::passed, crate::proofs::Naming::named))]
 fn take_token(
     tokens: &Tokens<'_>,
     at: usize,
@@ -320,7 +311,9 @@ fn take_token(
 {
     match tokens.kind(at) {
         Some(kind) => {
-            add_position(tokens, at, kind, walk, role, positions)?;
+            if walk.stands_for(role, kind) {
+                add_position(tokens, at, walk, positions)?;
+            }
             walk.take(kind);
             Ok(())
         }
@@ -328,7 +321,7 @@ fn take_token(
     }
 }
 
-/// The places of a text at which a name stands for this, in order.
+/// The positions of a text at which a name stands for this, in order.
 fn all_positions(
     alloc: Global,
     tokens: &Tokens<'_>,
@@ -345,7 +338,7 @@ fn all_positions(
     Ok(positions)
 }
 
-/// The places of a text at which a name stands for the same, in order. `AllocError` if memory runs out.
+/// The positions of a text at which a name stands for the same, in order. `AllocError` if memory runs out.
 pub fn positions_in(
     alloc: Global,
     tokens: &Tokens<'_>,
@@ -360,17 +353,26 @@ pub fn positions_in(
     all_positions(alloc, tokens, RoleWalk::new(file, named.name), named.role)
 }
 
+/// Whether a token begins before a byte, or at it.
+fn is_begun_at(tokens: &Tokens<'_>, at: usize, offset: usize) -> bool
+    ensures { Decides result (IsBegunAt tokens.now offset at) }
+{
+    match tokens.position(at) {
+        Some(position) => position.start as usize <= offset,
+        None => false,
+    }
+}
+
 /// How many tokens begin before a byte, or at it.
-pub fn begun_at(tokens: &Tokens<'_>, offset: usize) -> usize {
+pub fn begun_at(tokens: &Tokens<'_>, offset: usize) -> usize
+    requires { AreInOrder tokens.now }
+    ensures { AreBegunAt tokens.now offset result }
+{
     let mut low = 0;
     let mut high = tokens.len();
     'halves: while low < high {
         let middle = low + (high - low) / 2;
-        let begins = match tokens.position(middle) {
-            Some(position) => position.start as usize <= offset,
-            None => false,
-        };
-        if begins {
+        if is_begun_at(tokens, middle, offset) {
             low = middle + 1;
         } else {
             high = middle;
@@ -381,7 +383,7 @@ pub fn begun_at(tokens: &Tokens<'_>, offset: usize) -> usize {
 
 /// Whether a token is a word, and a byte is one of it or that after it.
 fn is_word_at(tokens: &Tokens<'_>, at: usize, offset: usize) -> bool
-    ensures { IsTrue result → IsWordAt tokens.now offset at }
+    ensures { Decides result (IsWordAt tokens.now offset at) }
 {
     if let Some(TokenKind::Symbol(_) | TokenKind::Bad(_)) = tokens.kind(at) {
         return false;
@@ -394,7 +396,8 @@ fn is_word_at(tokens: &Tokens<'_>, at: usize, offset: usize) -> bool
 
 /// The place among the tokens of the word that has a byte, or ends before it.
 pub fn word_at(tokens: &Tokens<'_>, offset: usize) -> Option<usize>
-    ensures { IfSome result (IsWordAt tokens.now offset) }
+    requires { AreInOrder tokens.now }
+    ensures { MatchOption result (HasNoWordAt tokens.now offset) (IsLastWordAt tokens.now offset) }
 {
     let begun = begun_at(tokens, offset);
     let last = begun.checked_sub(1)?;

@@ -1,39 +1,39 @@
 //! What a hover says of a word, in Markdown.
+ghost use Rattle.std.specs.Prelude.{◌≡◌, ◌++◌, OnOk, codes, flat_map};
+ghost use Rattle.fmp_base.specs.Services.{service_name};
+ghost use Rattle.fmp_server.specs.Hovers.{api_head, call_head, constant_head};
+ghost use Rattle.fmp_server.specs.Messages.{Adds};
+
 use crate::catalogue::{arguments_of, codes_of, deed_of};
 use fmp_base::{Name, ObjectKind, Parameter, Permission, Service};
 use fmp_diagnosis::fields::{Field, attributes_of, fields_of, object_of};
+use fmp_json::{append, append_signed};
 use fmp_lex::{Api, Constant};
-use itoa::Buffer;
 use std::alloc::AllocError;
-
-/// Appends a text.
-pub fn append(text: &str, out: &mut Vec<u8>) -> Result<(), AllocError> {
-    out.extend_from_slice(text.as_bytes())
-}
-
-/// Appends a number in decimal digits.
-pub fn append_number(number: i64, out: &mut Vec<u8>) -> Result<(), AllocError> {
-    append(Buffer::new().format(number), out)
-}
 
 /// Appends bytes as code.
 pub fn append_code(bytes: &[u8], out: &mut Vec<u8>) -> Result<(), AllocError> {
-    append("`", out)?;
-    out.extend_from_slice(bytes)?;
-    append("`", out)
+    append(b"`", out)?;
+    append(bytes, out)?;
+    append(b"`", out)
 }
 
 /// Appends texts, one after the other.
-pub fn append_all(texts: &[&str], out: &mut Vec<u8>) -> Result<(), AllocError> {
+pub fn append_all(texts: &[&str], out: &mut Vec<u8>) -> Result<(), AllocError>
+    ensures { OnOk result (out.new.items ≡ out.old.items ++ flat_map (λ text. text.now) texts.now) }
+{
     for text in texts {
-        append(*text, out)?;
+        append(text.as_bytes(), out)?;
     }
     Ok(())
 }
 
 /// Appends the name of a call and what stands between its parentheses.
-pub fn append_call(service: Service, out: &mut Vec<u8>) -> Result<(), AllocError> {
-    append_all(&[service.name(), "(", arguments_of(service), ")"], out)
+pub fn append_call(service: Service, out: &mut Vec<u8>) -> Result<(), AllocError>
+    ensures { OnOk result (Adds (out.old.items ++ (service_name service ++ codes "(")) out.new.items) }
+{
+    append_all(&[service.name(), "("], out)?;
+    append_all(&[arguments_of(service), ")"], out)
 }
 
 /// What an object is of which a call takes the number.
@@ -84,8 +84,11 @@ fn permitted(permission: Permission) -> &'static str {
 }
 
 /// Says what stands for each argument of a call.
-fn say_parameters(service: Service, out: &mut Vec<u8>) -> Result<(), AllocError> {
-    append("\n", out)?;
+#[tactic(auto, using(crate::proofs::Adding::adding))]
+fn say_parameters(service: Service, out: &mut Vec<u8>) -> Result<(), AllocError>
+    ensures { OnOk result (Adds out.old.items out.new.items) }
+{
+    append(b"\n", out)?;
     for parameter in service.parameters() {
         append_all(&["\n- ", meaning(*parameter)], out)?;
     }
@@ -93,51 +96,72 @@ fn say_parameters(service: Service, out: &mut Vec<u8>) -> Result<(), AllocError>
 }
 
 /// Says when a call answers which codes, if any beside those of the general tests.
-fn say_codes(service: Service, out: &mut Vec<u8>) -> Result<(), AllocError> {
+#[tactic(auto, using(crate::proofs::Adding::adding))]
+fn say_codes(service: Service, out: &mut Vec<u8>) -> Result<(), AllocError>
+    ensures { OnOk result (Adds out.old.items out.new.items) }
+{
     let codes = codes_of(service);
     if codes.is_empty() {
         return Ok(());
     }
-    append("\n\nCodes: ", out)?;
+    append(b"\n\nCodes: ", out)?;
     append_all(codes, out)
 }
 
-/// Says what a call does and answers.
-pub fn say_call(service: Service, out: &mut Vec<u8>) -> Result<(), AllocError> {
-    append("`", out)?;
-    append_call(service, out)?;
-    append("`: ", out)?;
+/// Says what a call does and answers, after its name and arguments.
+#[tactic(auto, using(crate::proofs::Adding::adding))]
+fn say_deed(service: Service, out: &mut Vec<u8>) -> Result<(), AllocError>
+    ensures { OnOk result (Adds out.old.items out.new.items) }
+{
+    append(b"`: ", out)?;
     append_all(deed_of(service), out)?;
     say_parameters(service, out)?;
     say_codes(service, out)?;
     append_all(&["\n\n", permitted(service.permission())], out)
 }
 
+/// Says what a call does and answers.
+pub fn say_call(service: Service, out: &mut Vec<u8>) -> Result<(), AllocError>
+    ensures { OnOk result (Adds (out.old.items ++ call_head service) out.new.items) }
+{
+    append(b"`", out)?;
+    append_call(service, out)?;
+    say_deed(service, out)
+}
+
 /// Says what number a constant stands for.
-pub fn say_constant(constant: Constant, out: &mut Vec<u8>) -> Result<(), AllocError> {
+pub fn say_constant(constant: Constant, out: &mut Vec<u8>) -> Result<(), AllocError>
+    ensures { OnOk result (out.new.items ≡ out.old.items ++ constant_head constant) }
+{
     append_all(&["`", constant.name(), "` is "], out)?;
-    append_number(i64::from(constant.value()), out)
+    append_signed(i64::from(constant.value()), out)
 }
 
 /// Says which values a field of a static API may have.
-fn say_values(api: Api, field: Field, out: &mut Vec<u8>) -> Result<(), AllocError> {
+#[tactic(auto, using(crate::proofs::Adding::adding))]
+fn say_values(api: Api, field: Field, out: &mut Vec<u8>) -> Result<(), AllocError>
+    ensures { OnOk result (Adds out.old.items out.new.items) }
+{
     if field == Field::Attribute {
         return append_all(&[": ", attributes_of(api)], out);
     }
     match field.range() {
         Some((least, greatest)) => {
-            append(": ", out)?;
-            append_number(i64::from(least), out)?;
-            append(" to ", out)?;
-            append_number(i64::from(greatest), out)
+            append(b": ", out)?;
+            append_signed(i64::from(least), out)?;
+            append(b" to ", out)?;
+            append_signed(i64::from(greatest), out)
         }
         None => Ok(()),
     }
 }
 
-/// Says what a static API makes, and which fields it has.
-pub fn say_api(api: Api, out: &mut Vec<u8>) -> Result<(), AllocError> {
-    append_all(&["`", api.name(), "` makes ", object_of(api), "\n"], out)?;
+/// Says what a static API makes, and which fields it has, after its name.
+#[tactic(auto, using(crate::proofs::Adding::adding))]
+fn say_made(api: Api, out: &mut Vec<u8>) -> Result<(), AllocError>
+    ensures { OnOk result (Adds out.old.items out.new.items) }
+{
+    append_all(&[object_of(api), "\n"], out)?;
     for field in fields_of(api) {
         append_all(&["\n- ", field.called()], out)?;
         say_values(api, *field, out)?;
@@ -145,9 +169,17 @@ pub fn say_api(api: Api, out: &mut Vec<u8>) -> Result<(), AllocError> {
     Ok(())
 }
 
+/// Says what a static API makes, and which fields it has.
+pub fn say_api(api: Api, out: &mut Vec<u8>) -> Result<(), AllocError>
+    ensures { OnOk result (Adds (out.old.items ++ api_head api) out.new.items) }
+{
+    append_all(&["`", api.name(), "` makes "], out)?;
+    say_made(api, out)
+}
+
 /// Says that a name is that of a class.
 pub fn say_class(name: Name, out: &mut Vec<u8>) -> Result<(), AllocError> {
-    append("class ", out)?;
+    append(b"class ", out)?;
     append_code(name.as_bytes(), out)?;
-    append(": tasks begin on the processor of its number", out)
+    append(b": tasks begin on the processor of its number", out)
 }

@@ -364,24 +364,22 @@ impl Workspace {
         }
     }
 
-    /// Takes a request, and adds its answer.
+    /// Takes a request, and gives its answer.
     fn take_request(
         &mut self,
         alloc: Global,
         id: RequestId<'_>,
         method: &str,
         message: &Value<'_>,
-        out: &mut Vec<Vec<u8>>,
-    ) -> Result<(), AllocError>
-        ensures reply { OnOk result ((bytes : List ℕ)
-            × IsReply self.old.stage self.old.documents.list.items id.entry method.now (value_view message.now) bytes
-            × (map (λ b. b.items) out.new.items ≡ map (λ b. b.items) out.old.items ++ bytes ∷ [])) }
+    ) -> Result<Vec<u8>, AllocError>
+        ensures reply { IfOk result (λ bytes. IsReply self.old.stage self.old.documents.list.items id.entry method.now
+            (value_view message.now) bytes.items) }
         ensures stage { OnOk result (self.new.stage ≡ spec.stage_after self.old.stage method.now) }
         ensures documents { self.new.documents ≡ self.old.documents }
     {
-        out.push(self.reply(alloc, id, method, message)?)?;
+        let reply = self.reply(alloc, id, method, message)?;
         self.stage = stage_after(self.stage, method);
-        Ok(())
+        Ok(reply)
     }
 
     /// Takes a value as a message.
@@ -397,7 +395,11 @@ impl Workspace {
             × (map (λ b. b.items) out.new.items ≡ map (λ b. b.items) out.old.items ++ answers)) }
     {
         match message_of(value) {
-            Message::Request(id, method) => self.take_request(alloc, id, method, value, out),
+            Message::Request(id, method) => {
+                let reply = self.take_request(alloc, id, method, value)?;
+                out.push(reply)?;
+                Ok(())
+            }
             Message::Notification(method) => self.take_notification(alloc, method, value, out),
             Message::Answer => Ok(()),
             Message::Invalid => add_refusal(alloc, Refusal::NoRequest, "no message", out),

@@ -76,7 +76,7 @@ pub fn write_edit(writer: &mut Writer, range: TextRange, text: &str) -> Result<(
 }
 
 /// Writes a member of which the key is the URI of a text, and the value are the edits that put a name in place of what
-/// stands at these places of it.
+/// stands at these positions of it.
 pub fn write_edits(
     writer: &mut Writer,
     uri: &str,

@@ -1,11 +1,12 @@
 use Rattle.std.proofs.Common.{◌∙◌}
 use Rattle.std.proofs.lemmas.Result.{IfOk-weaker}
-use Rattle.fmp_server.proofs.Adding.{answered}
+use Rattle.fmp_server.proofs.Adding.{answered_by}
 use Rattle.fmp_server.proofs.completion.completion.Goals as goal
 
 pub returns : goal.returns
 returns c =
     let before = c.in_ok-write_list.ensures.before ∙ c.in_ok-writer.ensures.before in
+    let words = c.in_ok-write_list.ensures.tokens in
     IfOk-weaker c.finish.result _ _
-    (λ bytes e. answered _ _ _ _ _ before c.in_ok-writer.ensures.tokens c.in_ok-write_list.ensures.tokens e)
+    (λ bytes e. (words.0, answered_by _ _ _ _ _ _ before c.in_ok-writer.ensures.tokens words.1 e))
     c.finish.ensures

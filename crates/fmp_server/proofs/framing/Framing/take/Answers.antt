@@ -1,6 +1,6 @@
 use Rattle.std.proofs.Common.{◌+◌, ◌∙◌, [], ◌∷◌, ap, arith, drop, map, sym}
 use Rattle.std.proofs.lemmas.List.{append-nil, map-append}
-use Rattle.fmp_server.specs.Framing.{fed_behind, part_of}
+use Rattle.fmp_server.specs.Framing.{fed_after, part_of}
 use Rattle.fmp_server.proofs.Feeding.{stretch_fed}
 use Rattle.fmp_server.proofs.framing.Framing.take.Goals as goal
 
@@ -23,7 +23,7 @@ stretches-preserved c =
     let goes_on = rw c.in-None.is at c.in_ok-message.ensures in
     record {
       within = omega (arith, c.stretch_of.ensures.within, c.stretches.invariant.within);
-      reads = ap (λ ms. fed_behind (part_of c.take_stretch.new.self) ms (drop end c.args.bytes.now))
+      reads = ap (λ ms. fed_after (part_of c.take_stretch.new.self) ms (drop end c.args.bytes.now))
           (sym (append-nil before))
           ∙ stretch_fed (part_of c.stretches.self) (part_of c.take_stretch.new.self) before [] c.args.bytes.now
           c.stretches.at end (omega arith) goes_on

@@ -5,19 +5,20 @@ use Rattle.fmp_server.specs.declared.messages.Message.TheVariants as message
 use Rattle.fmp_server.specs.declared.messages.Refusal.TheVariants as refusal
 use Rattle.fmp_server.specs.Messages.{refused}
 use Rattle.fmp_server.proofs.Joining.{then_ok}
+use Rattle.fmp_server.proofs.Notices.{pushed}
 use Rattle.fmp_server.proofs.Taking.{ok_both}
 use Rattle.fmp_server.proofs.workspace.Workspace.take_value.Goals as goal
 
-pub returns-in-Request : goal.returns-in-Request
-returns-in-Request c =
-    ok_both c.take_request.result c.take_request.ensures.reply c.take_request.ensures.stage
-    (λ reply stage. (
+pub returns-in_ok-push-in-Request : goal.returns-in_ok-push-in-Request
+returns-in_ok-push-in-Request c =
+    let taken = c.in_ok-reply-in-Request.ensures in
+    let reply = c.in_ok-reply-in-Request.reply in (
       message.Request c.in-Request.id c.in-Request.method,
-      reply.0 ∷ [],
+      reply.items ∷ [],
       c.in-Request.ensures,
-      (reply.0, refl, reply.1, stage, ap (λ (d : Documents). d.list.items) c.take_request.ensures.documents),
-      reply.2,
-    ))
+      (reply.items, refl, taken.reply, taken.stage, ap (λ (d : Documents). d.list.items) taken.documents),
+      pushed (λ b. b.items) _ _ _ c.in_ok-push-in-Request.ensures.items,
+    )
 
 pub returns-in-Notification : goal.returns-in-Notification
 returns-in-Notification c =

@@ -1,0 +1,7 @@
+use Rattle.std.proofs.Common.{◌≡◌, ◌++◌, take}
+use Rattle.std.specs.Prelude.{flat_map}
+use Rattle.fmp_server.proofs.sayings.append_all.Given as goal
+
+abbrev pub invariant-loop-text : goal.invariant-loop-text
+invariant-loop-text l =
+    l.out.items ≡ l.initial.out.items ++ flat_map (λ text. text.now) (take l.text-index l.texts)
