@@ -41,7 +41,7 @@ pub enum Term {
 const MOST: usize = 1024;
 
 /// The types of C that a cast may name.
-static TYPES: [&[u8]; 18] = [
+static TYPES: [&[u8]; 38] = [
     b"void",
     b"char",
     b"short",
@@ -60,6 +60,26 @@ static TYPES: [&[u8]; 18] = [
     b"SIZE",
     b"RELTIM",
     b"FLGPTN",
+    b"B",
+    b"H",
+    b"W",
+    b"VB",
+    b"VH",
+    b"VW",
+    b"UB",
+    b"UH",
+    b"UW",
+    b"FP",
+    b"FN",
+    b"BOOL",
+    b"bool",
+    b"ER",
+    b"STAT",
+    b"MODE",
+    b"TMO",
+    b"SYSTIM",
+    b"INHNO",
+    b"INTNO",
 ];
 
 /// Whether a word is a type.
