@@ -12,6 +12,7 @@ nothing that it did not look for.
 """
 
 import argparse
+import bisect
 import itertools
 import random
 import re
@@ -31,7 +32,7 @@ from common.services import SERVICES  # noqa: E402
 from common.tally import Tally  # noqa: E402
 
 BOUND = "100000"  # where the options give none
-MEMORY = (30_000, 18_000, 12_000, 9_000, 7_000, 6_000, 5_400, 5_000)  # kilobytes that a search may take, less and less
+MEMORY = (30_000, 18_000, 12_000, 9_000, 7_000, 6_000, 5_400)  # kilobytes that a search may take, less and less
 FURTHER = 300  # events after those of a task that can never go on
 FOLDERS = (ROOT / "checks/schedules/systems", ROOT / "examples", ROOT / "bench/searches")
 JOBS = (("prod5", ()), ("count4", ()), ("phil7", ("--states", "60000")), ("flags", ("--states", "5000")))
@@ -492,13 +493,24 @@ def kind_of(search, status, text, said):
     return f"status {status}, {text[:300]!r}, {said[:100]!r}"
 
 
+def least_memory(view):
+    """With how many kilobytes at least the system starts the program."""
+    choices = range(2_000, MEMORY[-1])
+
+    def starts(kilobytes):
+        done = subprocess.run([view, "--version"], capture_output=True, check=False, preexec_fn=within(kilobytes))
+        return done.returncode in (0, 3)  # its own: without memory for itself it ends by a signal, or with 127
+
+    return choices[bisect.bisect_left(choices, True, key=starts)]
+
+
 def try_memory(tally, programs):
     """Searches a system in which a task is stuck with less and less memory, and counts whether each search tells that
     task, or that it looked for none, or that it stopped, in this order."""
     kinds = []
     with tempfile.TemporaryDirectory() as folder:
         search = Search(*programs, folder, "rwnever", ())
-        for kilobytes in MEMORY:
+        for kilobytes in (*MEMORY, least_memory(search.view)):
             done = subprocess.run(search.words(), cwd=folder, capture_output=True, text=True, check=False,
                                   timeout=SECONDS, preexec_fn=within(kilobytes))
             said = done.stderr.splitlines(keepends=True)
