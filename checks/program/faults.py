@@ -828,7 +828,7 @@ class Finding(NamedTuple):
 
 
 def report(it):
-    """What is printed of a finding: the head and the sentence, the line, and the marks under it, one for a character."""
+    """What is printed of a finding: the head and the sentence, the line, and the marks under it, one a character."""
     head = f"{it.name}:{it.line}:{it.column}: {it.code}: {it.sentence}\n"
     whole = it.text.split("\n")[it.line - 1].removesuffix("\r")
     shown = whole.translate(PICTURES)

@@ -33,9 +33,9 @@ impl<'a> Texts<'a> {
     }
 }
 
-/// Appends a sentence that says what is wrong with two texts whose fault is of this kind and stands at a position of one
-/// of them: what stands there, what may stand there or which value is out of which range, and of an unknown name the
-/// nearest known one. `AllocError` if memory runs out.
+/// Appends a sentence that says what is wrong with two texts whose fault is of this kind and stands at a position of
+/// one of them: what stands there, what may stand there or which value is out of which range, and of an unknown name
+/// the nearest known one. `AllocError` if memory runs out.
 pub(crate) fn say_fault(
     alloc: Global,
     texts: Texts<'_>,

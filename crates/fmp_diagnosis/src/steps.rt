@@ -254,8 +254,8 @@ struct Said {
     sentence: Vec<u8>,
 }
 
-/// This is said of a stretch of the line of this number, from 1, of a steps text. Of the stretch that part is shown that
-/// stands in the line.
+/// This is said of a stretch of the line of this number, from 1, of a steps text. Of the stretch that part is shown
+/// that stands in the line.
 fn said_of_line(
     alloc: Global,
     text: &[u8],

@@ -237,7 +237,8 @@ fn shown_of_steps(
     steps: &[u8],
     processors: u8,
 ) -> Result<Shown, AllocError>
-    ensures { IfOk result (IsShownOf style.entry.form style.entry.names texts.entry steps.now (found.Sound processors)) }
+    ensures { IfOk result
+        (IsShownOf style.entry.form style.entry.names texts.entry steps.now (found.Sound processors)) }
 {
     if let Some(fault) = step_fault(alloc, steps, processors)? {
         let finding = step_finding(alloc, steps, fault.line, fault.flaw)?;
