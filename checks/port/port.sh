@@ -325,7 +325,7 @@ checked() {
     plain/queue --image other.img "$root/examples/queue.cfg" "$root/examples/queue.steps" > output 2> errors &&
         problem="$problem, status 0"
     [ "$(cat errors)" = "$said" ] || problem="$problem, it says: $(head -c 300 errors)"
-    plain/live-queue --image other.img "$root/examples/queue.cfg" 200000 20 > output 2> errors &&
+    plain/live-queue --image other.img "$root/examples/queue.cfg" 200000 50000 > output 2> errors &&
         problem="$problem, status 0 in real time"
     [ "$(cat errors)" = "$said" ] || problem="$problem, it says: $(head -c 300 errors)"
     plain/queue --image sum.img "$root/examples/queue.cfg" "$root/examples/queue.steps" > output 2> errors &&
