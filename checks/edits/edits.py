@@ -2,7 +2,10 @@
 """Tries the wrong edits of this folder: under the contract of the function that it changes, the prover has to refuse
 each.
 
-    checks/edits/edits.py [--jobs N] [--unedited] [CRATE[/NAME]..]
+    checks/edits/edits.py [--jobs N] [--unedited] [--gate | CRATE[/NAME]..]
+
+With --gate it tries those that the file `gate.list` names, and only sees that the others can be made. With neither
+--gate nor a name it tries all.
 
 An edit is a file CRATE/NAME.edit. Its line `file: PATH` names a file of the crate, and its line `function: PATH` the
 function of this file that it changes, as a check names it after the name of the crate. Then come lines `old: TEXT` and
@@ -149,6 +152,8 @@ class Crate:
         self.built, self.groups = rtlib.Crate(str(self.folder), str(ROOT), {}), []
         taken = []
         files = [it for it in sorted((EDITS / name).glob("*.edit")) if "" in chosen or it.stem in chosen]
+        for lost in chosen - {"", *(it.stem for it in files)}:
+            raise Failure(f"{name}/{lost} is no edit")
         for edit in map(read_edit, files):
             text = (self.folder / edit.file).read_text()
             own = {edit.function}
@@ -275,11 +280,19 @@ def main():
     parser = argparse.ArgumentParser(description="Tries wrong edits: the prover has to refuse each.")
     parser.add_argument("--jobs", metavar="N", type=int, default=int(os.environ.get("RT_JOBS", 1)))
     parser.add_argument("--unedited", action="store_true", help="make no edit: no goal of their functions may be left")
-    parser.add_argument("edits", metavar="CRATE[/NAME]", nargs="*")
+    which = parser.add_mutually_exclusive_group()
+    which.add_argument("--gate", action="store_true", help="try those that the file `gate.list` names")
+    which.add_argument("edits", metavar="CRATE[/NAME]", nargs="*", default=[])
     words = parser.parse_args()
     rtlib, tally = toolchain(), Tally()
+    folders = [it.name for it in EDITS.iterdir() if it.is_dir()]
+    listed = words.edits or folders
+    if words.gate:
+        listed = (EDITS / "gate.list").read_text().split()
+        for name in folders:
+            Crate(rtlib, name, {""})
     chosen = {}
-    for word in words.edits or [it.name for it in EDITS.iterdir() if it.is_dir()]:
+    for word in listed:
         crate, _, name = word.partition("/")
         chosen.setdefault(crate, set()).add(name)
     crates = sorted((Crate(rtlib, *it) for it in chosen.items()), key=Crate.lines, reverse=True)

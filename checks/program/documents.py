@@ -181,7 +181,8 @@ class Checker:
         self.document = "checks/README.md"
         pattern = r"[\w./]+\.(py|sh|c|h|supp)"
         told = {Path(re.match(pattern, name)[0]).name for _, name in named(self.document, rf"{pattern}\b.*")}
-        there = {path.name for path in ROOT.glob("checks/*/*") if path.is_file() and path.suffix != ".rows"}
+        files = filter(Path.is_file, ROOT.glob("checks/*/*"))
+        there = {path.name for path in files if path.suffix not in (".rows", ".list")}
         shared = {path.name for path in ROOT.glob("checks/common/*")}
         self.verdict(0, "files that are not told", set(), there - shared - told)
         self.verdict(0, "files that are told and not there", set(), told - there)
