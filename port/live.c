@@ -63,7 +63,6 @@ static atomic_llong tick_due;
 static sem_t requests;              /* there are requested interrupts, or the run is to be over */
 static sem_t clock_end;             /* the run is over */
 static atomic_bool takes_requests;
-static atomic_uint requested;       /* interrupts, by bits */
 static atomic_ulong merged[INTERRUPTS];
 static atomic_bool halted;
 
@@ -451,7 +450,7 @@ static bool interrupt(void)
         end_run(FMP_HALTED);
     }
     bool continues = over == FMP_NOT_OVER;
-    uint32_t bits = continues ? atomic_exchange(&requested, 0) : 0;
+    uint32_t bits = continues ? atomic_exchange(&fmp_system_requested, 0) : 0;
     for (uint8_t number = 1; number <= INTERRUPTS; number++) {
         uint32_t changes = 0;
         if (bits >> (number - 1) & 1) {
@@ -487,7 +486,7 @@ void fmp_raise(int number)
     if (number < 1 || number > INTERRUPTS) {
         return;
     }
-    unsigned bit = 1u << (number - 1), before = atomic_fetch_or(&requested, bit);
+    unsigned bit = 1u << (number - 1), before = atomic_fetch_or(&fmp_system_requested, bit);
     merged[number - 1] += (before & bit) != 0;
     if (before == 0) {
         post_request();

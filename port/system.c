@@ -33,6 +33,7 @@ fmp_system fmp_system_kernel = FMP_BLANK;
 uint32_t fmp_system_processors;
 uint32_t fmp_system_steppable;
 atomic_bool fmp_system_runs;
+atomic_uint fmp_system_requested;
 unsigned long fmp_system_polls;
 const struct driver *fmp_system_driver;
 
@@ -496,6 +497,7 @@ void fmp_close(void)
         forget(&handlers[at]);
     }
     fmp_free(&fmp_system_kernel);
+    atomic_store(&fmp_system_requested, 0);
     fmp_system_steppable = fmp_system_processors = 0;
 }
 

@@ -44,6 +44,7 @@ extern fmp_system fmp_system_kernel;
 extern uint32_t fmp_system_processors;
 extern uint32_t fmp_system_steppable;               /* as many, or 0 once bodies were interrupted at any instruction */
 extern atomic_bool fmp_system_runs;                 /* in real time */
+extern atomic_uint fmp_system_requested;            /* interrupts, by bits, until a run takes them */
 extern unsigned long fmp_system_polls;              /* of the program */
 extern const struct driver *fmp_system_driver;      /* while bodies go on */
 

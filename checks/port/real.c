@@ -466,6 +466,26 @@ static void let_interfere(void)
     pthread_join(other, NULL);
 }
 
+static void halt_when_woken(void)
+{
+    slp_tsk();
+    fmp_halt();
+}
+
+/* What is requested before a run comes in it, unless its system is closed before. */
+static void request_before_run(void)
+{
+    open_few(return_at_once, true);
+    fmp_raise(3);
+    end_system();
+    open_few(return_at_once, true);
+    driver_part = halt_when_woken;
+    expect(fmp_run(20000000, 10, stderr) == FMP_TICKS_OVER, "what was requested of another system does not come");
+    fmp_raise(3);
+    expect(fmp_run(0, 0, stderr) == FMP_HALTED, "what was requested between two runs comes");
+    end_system();
+}
+
 static int run_ends(void)
 {
     signal(SIGINT, SIG_DFL);    /* a shell that starts a program in the background lets it ignore SIGINT */
@@ -502,8 +522,10 @@ static int run_ends(void)
     set_alarm(500);
     expect(run_few(return_at_once, true, 0, 0) == FMP_HALTED, "a signal handler raises interrupts");
     set_alarm(0);
+    signal(SIGALRM, SIG_IGN);   /* valgrind may deliver the last one late */
     expect(wakeups >= WAKEUPS, "they were handled");
     end_system();
+    request_before_run();
     keep_last(10, 11, last_puts);
     keep_last(1000, PUT_LINES, "run 1 put 1\n");
     printf("real: %d failed\n", failed);

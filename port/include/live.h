@@ -50,7 +50,10 @@ enum fmp_over {
  */
 enum fmp_over fmp_run(long nanoseconds, unsigned long ticks, FILE *messages);
 
-/* Requests an interrupt, 1 to 32; any other number does nothing. From any thread, body or signal handler. */
+/*
+ * Requests an interrupt, 1 to 32; any other number does nothing. From any thread, body or signal handler. It comes in
+ * the run that goes on, or else in the next one, unless the system is closed before that.
+ */
 void fmp_raise(int number);
 
 /* How many requests of an interrupt, in all runs, were no event: it was requested already, or it has no handler. */
