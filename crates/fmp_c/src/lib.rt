@@ -24,7 +24,7 @@ pub use looks::{
 };
 pub use machine::Machine;
 pub use making::{fmp_free, fmp_new, fmp_new_checked};
-pub use recorded::fmp_recorded;
+pub use recorded::{fmp_next, fmp_recorded};
 pub use records::{FmpActing, FmpOutcome, FmpRefusal};
 pub use restarting::fmp_restart_count;
 pub use services::{fmp_service_arity, fmp_service_name};

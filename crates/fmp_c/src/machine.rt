@@ -11,6 +11,7 @@ ghost use Rattle.fmp_outside.specs.declared.given.Act.TheVariants as act;
 ghost use Rattle.fmp_outside.specs.declared.given.Given.TheVariants as given;
 ghost use Rattle.fmp_c.specs.Exports.{IsConsulted, IsTaken, IsTakenBy, answered, checked_number, machine_after};
 ghost use Rattle.fmp_c.specs.Exports.{machine_restarted, outcome_of};
+ghost use Rattle.fmp_c.specs.Recorded.{next_given};
 ghost use Rattle.fmp_c.specs.Records as spec;
 
 use crate::records::{FmpActing, FmpOutcome, answer_number, changes};
@@ -154,6 +155,20 @@ impl Machine {
         match &mut self.text {
             None => None,
             Some(text) => consult(text, &self.hosted, *given),
+        }
+    }
+
+    /// What comes from the processor of this number, if its actor does what its text does next. None where there is no
+    /// text, where no one acts there, and where the text does not come to it within the bound.
+    pub fn next(&self, p: u8) -> Option<Given>
+        ensures { result ≡ next_given self.now.text p }
+    {
+        match &self.text {
+            None => None,
+            Some(text) => match text.next(p) {
+                None => None,
+                Some(act) => Some(Given::Act(p, act)),
+            },
         }
     }
 

@@ -1,11 +1,12 @@
-//! The line of a recording for the last event that was done, put together in an array, so that it takes no memory.
+//! The line of a recording for the last event that was done, and for what a text does next. It is put together in an
+//! array, so that it takes no memory.
 ghost use Rattle.std.specs.Prelude.{◌≡◌, ◌≤◌, ◌+◌, ◌*◌, ◌++◌, ◌∷◌, [], IfSome, None, codes, decimal, length, take};
 ghost use Rattle.std.specs.Fmt.{signed_decimal};
 ghost use Rattle.fmp_outside.specs.declared.given.Act.TheVariants as act;
 ghost use Rattle.fmp_outside.specs.declared.given.Given.TheVariants as given;
 ghost use Rattle.fmp_recording.specs.Recordings.{act_text, arguments_text, given_text};
 ghost use Rattle.fmp_c.specs.Names.{put};
-ghost use Rattle.fmp_c.specs.Recorded.{recorded};
+ghost use Rattle.fmp_c.specs.Recorded.{next_given, recorded};
 
 use crate::handle::FmpSystem;
 use crate::names;
@@ -151,6 +152,27 @@ pub extern "C" fn fmp_recorded(alloc: Global, h: &mut FmpSystem, room: &mut [u8]
     match mem::replace(h, FmpSystem::blank()).into_box(alloc) {
         Some(held) => {
             let length = put_recorded(held.last, room);
+            *h = FmpSystem::of(held);
+            length
+        }
+        None => 0,
+    }
+}
+
+/// The line that a recording would have if the actor of this processor did what its text does next, with its line feed:
+/// how many bytes it has. 0 where there is no text, where no one acts there, where the text does not come to it within
+/// the bound, and where the handle is blank. It stands in the room if there is room for it, and else nothing is
+/// written.
+#[unsafe(no_mangle)]
+pub extern "C" fn fmp_next(alloc: Global, h: &mut FmpSystem, p: u8, room: &mut [u8]) -> usize
+    ensures kept { h.new.machine ≡ h.old.machine }
+    ensures read { IfSome h.old.machine (λ m. (room.new ≡ put (recorded (next_given m.text p)) room.old)
+        × (result ≡ length (recorded (next_given m.text p)))) }
+    ensures blank { h.old.machine ≡ None → (room.new ≡ room.old) × (result ≡ 0) }
+{
+    match mem::replace(h, FmpSystem::blank()).into_box(alloc) {
+        Some(held) => {
+            let length = put_recorded(held.next(p), room);
             *h = FmpSystem::of(held);
             length
         }

@@ -12,7 +12,8 @@ use Rattle.fmp_outside.specs.declared.given.Act.{Act}
 use Rattle.fmp_outside.specs.declared.given.Given.{Given}
 use Rattle.fmp_outside.specs.declared.given.Given.TheVariants as given
 use Rattle.fmp_outside.specs.Outside.{ActsSo, IsOfText, act_of}
-use Rattle.fmp_foreign.specs.Following.{ActsOtherwise, DoesOtherwise, GoesOn, IsOver, stretch_of, stretch_on}
+use Rattle.fmp_foreign.specs.Following.{ActsOtherwise, DoesOtherwise, GoesOn, IsOver, act_at_end, act_on}
+use Rattle.fmp_foreign.specs.Following.{stretch_of, stretch_on}
 
 no_stamp : {C : Type 0} (stamp : ℕ) (o : Option (Going C)) → with_stamp stamp o ≡ None → o ≡ None
 no_stamp stamp None e = cc
@@ -59,6 +60,11 @@ module _ {C : Type 0} (M : Meaning C) (n : ℕ) where
       let q : M.stretch g.entry n g.context ≡ x = cc in
       (b, ap (λ (y : Ending C). act_of y) q ∙ s, d)
 
+  other_at_end : (a : Act) (o : Option (Going C)) → ActsOtherwise M n a o
+      → (b : Act) × (act_at_end (stretch_of M n o) ≡ Some b) × (b ≢ a)
+  other_at_end a None h = absurd h
+  other_at_end a (Some g) h = h
+
   over_of : (s : Stretch C) (o : Option (Going C)) → stretch_of M n o ≡ Some (ending s) → act_of (ending s) ≡ None
       → IsOver M n o
   over_of s None e h = cc
@@ -93,3 +99,7 @@ module _ {B C : Type 0} (meaning : B → Meaning C) (k : KernelView B C) where
   over_goes_on p a s g q e h =
       subst (λ (i : Given). GoesOn meaning k i) (sym q)
       (over_of (meaning k.body) k.bound s (actor_at_number k.system k.world p) e h)
+
+  pub other_next : (p : ℕ) (a : Act) → DoesOtherwise meaning k (given.Act p a)
+      → (b : Act) × (act_on meaning k p ≡ Some b) × (b ≢ a)
+  other_next p a h = other_at_end (meaning k.body) k.bound a (actor_at_number k.system k.world p) h

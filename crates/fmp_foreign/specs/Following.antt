@@ -31,6 +31,16 @@ stretch_of M bound (Some g) = Some (M.stretch g.entry bound g.context)
 abbrev pub stretch_on : {B C : Type 0} → (B → Meaning C) → KernelView B C → ℕ → Option (Ending C)
 stretch_on meaning k p = stretch_of (meaning k.body) k.bound (actor_at_number k.system k.world p)
 
+-- the act at the end of a stretch, if there is a stretch
+abbrev pub act_at_end : {C : Type 0} → Option (Ending C) → Option Act
+act_at_end None = None
+act_at_end (Some e) = act_of e
+
+-- what the text of the actor of the processor of this number does next; none where no one acts there, and where the
+-- stretch is over its bound
+abbrev pub act_on : {B C : Type 0} → (B → Meaning C) → KernelView B C → ℕ → Option Act
+act_on meaning k p = act_at_end (stretch_on meaning k p)
+
 -- the text of this actor does another thing next
 abbrev pub ActsOtherwise : {C : Type 0} → Meaning C → (bound : ℕ) → Act → Option (Going C) → Type 0
 ActsOtherwise M bound a None = ⊥

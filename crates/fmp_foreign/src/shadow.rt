@@ -4,7 +4,7 @@ ghost use Rattle.std.specs.Prelude.{length, slice_get};
 ghost use Rattle.fmp_outside.specs.Outside.{IsOfText};
 ghost use Rattle.fmp_base.specs.Stretches.{ending};
 ghost use Rattle.fmp_kernel.specs.Restarts.{counts_restarted};
-ghost use Rattle.fmp_foreign.specs.Following.{Departs, DoesOtherwise, GoesOn, HasFollowed, stretch_on};
+ghost use Rattle.fmp_foreign.specs.Following.{Departs, DoesOtherwise, GoesOn, HasFollowed, act_on, stretch_on};
 
 use crate::same::is_same;
 use fmp_base::{Body, Stretch};
@@ -170,6 +170,15 @@ impl<B: Body> Shadow<B> {
         ensures { result.now ≡ self.now }
     {
         &self.kernel
+    }
+
+    /// What the text of the actor of the processor of this number, from 1, does next. None where no one acts there, and
+    /// where the text does not come to it within the bound.
+    pub fn next(&self, p: u8) -> Option<Act>
+        ensures { result ≡ act_on B.meaning self.now p }
+    {
+        let stretch = next_stretch(&self.kernel, p)?;
+        Act::of(stretch)
     }
 
     /// Takes what comes, in at most `turns` turns of the text. The verdict is `Follows` if the text does just this
