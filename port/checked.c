@@ -2,8 +2,12 @@
 #include "checked.h"
 
 #include <inttypes.h>
+#include <string.h>
+
+enum { LINE_ROOM = 66 + 1 };        /* of a recording, with a null byte */
 
 static const uint64_t USUAL_BOUND = 100000;
+static const char *const FAULT_NAMES[] = { "", "F_OVF", "F_DIV", "F_IDX" };  /* by enum fmp_fault_kind */
 
 /* FNV-1a. */
 static void add(uint64_t *sum, const void *bytes, size_t length)
@@ -71,17 +75,49 @@ enum fmp_opened fmp_checked_make(const struct fmp_program *program, FILE *messag
     return FMP_OPENED;
 }
 
-void fmp_checked_complain(const struct flow *flow, FILE *messages)
+/* What a body wishes. */
+static void say_wish(const struct flow *flow, FILE *messages)
 {
     char name[NAME_ROOM] = { 0 };
-    if (flow->wish != CALLS) {
-        fprintf(messages, "fmp: %s %s; its text does not\n", flow->name, flow->wish == ENDS ? "ends" : "has a fault");
+    if (flow->wish == ENDS) {
+        fputs("ends", messages);
+        return;
+    }
+    if (flow->wish == FAULTS) {
+        fprintf(messages, "has the fault %s", FAULT_NAMES[flow->fault]);
         return;
     }
     fmp_service_name(flow->service, (uint8_t *)name, sizeof name - 1);
-    fprintf(messages, "fmp: %s calls %s", flow->name, name);
+    fprintf(messages, "calls %s", name);
     for (uint32_t at = 0; at < fmp_service_arity(flow->service); at++) {
         fprintf(messages, " %" PRId32, flow->arguments[at]);
     }
-    fputs("; its text does not\n", messages);
+}
+
+/* What the text of the body that acts on a processor does next. */
+static void say_next(uint8_t p, FILE *messages)
+{
+    char line[LINE_ROOM] = { 0 };
+    char *act = line + sizeof "run 1 " - 1;     /* the number of a processor has one digit */
+    if (fmp_next(&fmp_system_kernel, p, (uint8_t *)line, sizeof line - 1) == 0) {
+        fputs("does not", messages);
+        return;
+    }
+    act[strcspn(act, "\n")] = '\0';
+    if (strcmp(act, "end") == 0) {
+        fputs("ends", messages);
+    } else if (strncmp(act, "fault ", sizeof "fault " - 1) == 0) {
+        fprintf(messages, "has the %s", act);
+    } else {
+        fprintf(messages, "calls %s", act);
+    }
+}
+
+void fmp_checked_complain(uint8_t p, const struct flow *flow, FILE *messages)
+{
+    fprintf(messages, "fmp: %s ", flow->name);
+    say_wish(flow, messages);
+    fputs("; its text ", messages);
+    say_next(p, messages);
+    fputs("\n", messages);
 }

@@ -247,7 +247,7 @@ static inline uint32_t hand_in(struct flow *flow, struct event *event)
     } else if (answer == FMP_STILL_LONG) {
         count();
     } else if (answer == FMP_NOT_THE_TEXT) {
-        fmp_checked_complain(flow, message_file);
+        fmp_checked_complain(event->processor, flow, message_file);
     }
     return answer;
 }

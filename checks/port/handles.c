@@ -49,6 +49,7 @@ static void blank(void)
     CHECK(fmp_counts(&none, &counts) == FMP_NO_SYSTEM && counts.done == 7);
     CHECK(fmp_print(&none, room, sizeof room) == 0 && room[0] == 9);
     CHECK(fmp_recorded(&none, room, sizeof room) == 0 && room[0] == 9);
+    CHECK(fmp_next(&none, 1, room, sizeof room) == 0 && room[0] == 9);
     CHECK(fmp_name(&none, FMP_TASKS, 1, room, sizeof room) == 0);
     CHECK(fmp_body(&none, FMP_TASKS, 1, room, sizeof room) == 0);
     CHECK(fmp_count(&none, FMP_TASKS) == 0);
@@ -115,6 +116,7 @@ static void recorded(fmp_system *system)
     CHECK(is(room, "tick\n", fmp_recorded(system, room, sizeof room)));
     CHECK(fmp_fault(system, 1, FMP_DIVISION, &out) == FMP_DONE);
     CHECK(is(room, "run 1 fault F_DIV\n", fmp_recorded(system, room, sizeof room)));
+    CHECK(fmp_next(system, 1, room, sizeof room) == 0);
 }
 
 static void looks(fmp_system *system)
@@ -199,6 +201,13 @@ static uint32_t done(fmp_system *system)
     return counts.done;
 }
 
+/* What the text of the actor of processor 1 does next, as the line of a recording. */
+static bool does_next(fmp_system *system, const char *text)
+{
+    uint8_t room[66];
+    return is(room, text, fmp_next(system, 1, room, sizeof room));
+}
+
 /* What differs from the text changes nothing; within its long stretch it asks for the same call again. */
 static void checked(void)
 {
@@ -207,6 +216,7 @@ static void checked(void)
     fmp_refusal why;
     fmp_outcome out;
     fmp_actor actor;
+    uint8_t room[8] = { 0 };
     uint32_t answer;
     int turns = 0;
     CHECK(load(&system, image, sizeof image, 20, &why) == FMP_MADE);
@@ -215,18 +225,24 @@ static void checked(void)
     CHECK(fmp_call(&system, 1, wai_sem, 2, 0, 0, 0, &out) == FMP_NOT_THE_TEXT && out.acting.number == 1);
     CHECK(fmp_end(&system, 1, &out) == FMP_NOT_THE_TEXT);
     CHECK(fmp_fault(&system, 1, FMP_INDEX, &out) == FMP_NOT_THE_TEXT);
+    CHECK(does_next(&system, "run 1 wai_sem 1\n"));
+    CHECK(fmp_next(&system, 1, room, sizeof room) == 16 && room[0] == 0);
+    CHECK(fmp_next(&system, 0, room, sizeof room) == 0 && fmp_next(&system, 2, room, sizeof room) == 0);
     CHECK(fmp_call(&system, 2, wai_sem, 1, 0, 0, 0, &out) == FMP_NO_PROCESSOR);
     CHECK(fmp_int(&system, 33, &out) == FMP_NO_INTERRUPT);
     CHECK(done(&system) == 0);
     CHECK(fmp_call(&system, 1, wai_sem, 1, 0, 0, 0, &out) == FMP_DONE && done(&system) == 1);
     CHECK(fmp_tick(&system, &out) == FMP_DONE && done(&system) == 2);
+    CHECK(does_next(&system, ""));
     while ((answer = fmp_call(&system, 1, sig_sem, 1, 0, 0, 0, &out)) == FMP_STILL_LONG) {
         turns++;
     }
     CHECK(answer == FMP_DONE && turns > 0 && done(&system) == 3);
+    CHECK(does_next(&system, "run 1 end\n") && does_next(&system, "run 1 end\n"));
     CHECK(fmp_end(&system, 1, &out) == FMP_DONE && (out.changes & FMP_BODY_ENDS) != 0);
     CHECK(fmp_end(&system, 1, &out) == FMP_NOTHING);
     CHECK(fmp_acting(&system, 1, &actor) == FMP_DONE && actor.who == FMP_NOBODY);
+    CHECK(does_next(&system, ""));
     fmp_free(&system);
     CHECK(system.at == NULL);
 }

@@ -301,8 +301,8 @@ refusals() {
     problem=
 }
 
-# Each example does what its task text does, in virtual and in real time; a text that sends another word is not
-# that of its bodies. The images are made by the program `fmp`.
+# Each example does what its task text does, in virtual and in real time; and the image of another configuration is
+# refused. The images are made by the program `fmp`.
 checked() {
     for source in "$root"/examples/c/*.c; do
         name=$(basename "$source" .c)
@@ -319,15 +319,6 @@ checked() {
         verdict "checked: $name" "$problem"
     done
     problem=
-    sed 's/6 \* 7/6 * 8/' "$root/examples/queue.src" > other.src
-    "$fmp" build "$root/examples/queue.cfg" other.src other.img > output 2>&1 || problem="no image: $(cat output)"
-    said="fmp: PRODUCER calls snd_dtq 1 42; its text does not"
-    plain/queue --image other.img "$root/examples/queue.cfg" "$root/examples/queue.steps" > output 2> errors &&
-        problem="$problem, status 0"
-    [ "$(cat errors)" = "$said" ] || problem="$problem, it says: $(head -c 300 errors)"
-    plain/live-queue --image other.img "$root/examples/queue.cfg" 200000 50000 > output 2> errors &&
-        problem="$problem, status 0 in real time"
-    [ "$(cat errors)" = "$said" ] || problem="$problem, it says: $(head -c 300 errors)"
     plain/queue --image sum.img "$root/examples/queue.cfg" "$root/examples/queue.steps" > output 2> errors &&
         problem="$problem, status 0 with the image of another configuration"
     [ "$(cat errors)" = "fmp: the image is not one of the configuration" ] ||
@@ -337,7 +328,38 @@ checked() {
         problem="$problem, status 0 with a priority that the image has not"
     [ "$(cat errors)" = "fmp: the image is not one of the configuration" ] ||
         problem="$problem, it says: $(head -c 300 errors)"
-    verdict "checked: another text" "$problem"
+    verdict "checked: another configuration" "$problem"
+    problem=
+    sed 's/snd_dtq/fmp_stop(2), &/' "$root/examples/c/queue.c" > faulty.c
+    "$cc" -std=c11 -I"$root/port/include" faulty.c plain/libport.a "$library" "$glue" -pthread -o faulty 2> errors ||
+        problem="it does not link: $(head -c 300 errors)"
+    refused 1 "fmp: PRODUCER has the fault F_DIV; its text calls snd_dtq 1 42" \
+        ./faulty --image queue.img "$root/examples/queue.cfg" "$root/examples/queue.steps"
+    verdict "checked: a fault" "$problem"
+}
+
+# departures KIND COMMAND..: the program of examples/queue.c beside texts that do other things. It is over at the first
+# of these, in virtual and in real time, and says what the function does and what its text does.
+departures() {
+    kind=$1
+    shift
+    while IFS=: read -r edit said; do
+        problem=
+        sed "$edit" "$root/examples/queue.src" > other.src
+        "$fmp" build "$root/examples/queue.cfg" other.src other.img > output 2>&1 || problem="no image: $(cat output)"
+        for words in "queue --image other.img $root/examples/queue.cfg $root/examples/queue.steps" \
+            "live-queue --image other.img $root/examples/queue.cfg 200000 50000"; do
+            # shellcheck disable=SC2086
+            "$@" "$kind"/$words > output 2> errors && problem="$problem, status 0 of $words"
+            [ "$(cat errors)" = "fmp: PRODUCER $said" ] || problem="$problem, it says: $(head -c 300 errors)"
+        done
+        verdict "$kind: PRODUCER $said" "$problem"
+    done << 'END'
+s/6 \* 7/6 * 8/:calls snd_dtq 1 42; its text calls snd_dtq 1 48
+s/6 \* 7/6 \/ 0/:calls snd_dtq 1 42; its text has the fault F_DIV
+s/snd_dtq.*;//:calls snd_dtq 1 42; its text ends
+s/snd_dtq.*;/& act_tsk(CONSUMER);/:ends; its text calls act_tsk 2
+END
 }
 
 # kills COUNT: runs that signals end at random moments.
@@ -454,6 +476,7 @@ failures
 kills 20
 if [ -x "$fmp" ]; then
     checked
+    departures plain
 else
     echo "$script: there is no program $fmp: nothing is checked beside texts"
 fi
@@ -494,6 +517,7 @@ if "$cc" -fsanitize=address,undefined empty.c -o empty 2> errors && ./empty; the
     examples sanitized
     replays sanitized
     mistakes sanitized
+    [ ! -x "$fmp" ] || departures sanitized
     random sanitized $((count / 20 + 1)) 1000001
 else
     echo "$script: there are no sanitizers"
@@ -513,6 +537,8 @@ if command -v valgrind > /dev/null; then
     mistakes plain $quiet
     # shellcheck disable=SC2086
     examples plain $quiet
+    # shellcheck disable=SC2086
+    [ ! -x "$fmp" ] || departures plain $quiet
     raced
 else
     echo "$script: there is no valgrind"

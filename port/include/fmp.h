@@ -208,6 +208,13 @@ size_t fmp_print(fmp_system *, uint8_t *room, size_t length);
 /* The line that a recording has for the last event that was done, with its line feed: at most 66 bytes. */
 size_t fmp_recorded(fmp_system *, uint8_t *room, size_t length);
 
+/*
+ * The line that a recording would have if the actor of processor p did what its text does next, in a checked system:
+ * at most 66 bytes. 0 where no one acts there, where the text does not come to it within the bound, and in a system
+ * that is not checked. After FMP_NOT_THE_TEXT there always is one.
+ */
+size_t fmp_next(fmp_system *, uint8_t p, uint8_t *room, size_t length);
+
 /* The name of an object: at most 31 bytes. */
 size_t fmp_name(fmp_system *, uint32_t kind, size_t number, uint8_t *room, size_t length);
 
