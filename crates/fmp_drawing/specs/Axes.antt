@@ -3,7 +3,7 @@ use Rattle.std.specs.Prelude.{ℕ, zero, suc, ◌+◌, List, [], Option, None, S
 use Rattle.fmp_timeline.specs.declared.run.Note.{Note}
 use Rattle.fmp_timeline.specs.declared.run.Run.{Run}
 
--- of so many events one has a grid line, by the width of a column
+-- one event of this many has a grid line, by the width of a column
 abbrev pub step_of : (column : ℕ) → ℕ
 step_of column =
     if nat_le 20 column then 1

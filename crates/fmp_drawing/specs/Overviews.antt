@@ -31,7 +31,7 @@ bins_of page run =
 abbrev pub start_of : Bins → (bin : ℕ) → ℕ
 start_of b bin = part b.events bin b.bins
 
--- where this one of so many stands
+-- where the one of this number stands, of this many
 abbrev pub x_at : Bins → (number of : ℕ) → Tenths
 x_at b number of = tenths (b.left.0 +ℤ factor (part (min (b.wide * 10) most) number of))
 

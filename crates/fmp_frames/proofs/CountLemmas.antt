@@ -7,7 +7,7 @@ use Rattle.fmp_kernel.specs.KernelViews.{KernelView, view_after}
 use Rattle.fmp_frames.specs.Watches.{after_first}
 
 module _ {B C X : Type 0} (reaction : KernelView B C → X → Reaction C) where
-  -- the last of several comes behind the others
+  -- the last of several comes after the others
   view_last : (k : KernelView B C) (xs : List X) (x : X)
       → view_after_each reaction k (xs ++ x ∷ [])
       ≡ view_after (view_after_each reaction k xs) (reaction (view_after_each reaction k xs) x)

@@ -7,7 +7,7 @@ use Rattle.fmp_frames.specs.DumpLaws.{IdentifiersDiffer}
 use Rattle.fmp_frames.specs.Dumps.{digit, digits}
 use Rattle.fmp_frames.proofs.DumpLemmas.{last_digit, more_digits}
 
--- so many numbers have one digit, and at most this many more
+-- how many numbers have one digit, or at most this many digits more
 limit : ℕ → ℕ
 limit zero = 94
 limit (suc more) = 94 * limit more

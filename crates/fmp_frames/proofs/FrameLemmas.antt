@@ -164,7 +164,7 @@ module _ {B C X : Type 0} (meaning : B → Meaning C) (reaction : KernelView B C
       ap (λ (v : KernelView B C). all ++ frames_of v (drop (i + 1) xs)) h
       ∙ ap (λ (q : List FrameTable). all ++ q) (sym here) ∙ so_far
 
-  -- to be shown all frames from one on that did something is to be shown its frame and then those behind it
+  -- to be shown all frames from one on that did something is to be shown its frame and then those after it
   pub shown-done : {V : Type 0} (shown : V → FrameTable → V → Type 0) (k k' : KernelView B C) (xs : List X) (i : ℕ)
       (x : X) (v u last : V)
       → i < length xs → x ≡ get_or xs i x → effect.Done ≡ effect_of (reaction k x) → k' ≡ view_after k (reaction k x)

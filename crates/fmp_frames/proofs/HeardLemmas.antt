@@ -50,7 +50,7 @@ heard-nothing h s Nothing is = refl
 heard-nothing h s (Did d) is = absurd (cc)
 heard-nothing h s (Kept p v) is = absurd (cc)
 
--- what is known at the end, from behind this event on
+-- what is known at the end, from after this event on
 pub heard-step : {B : Type 0} (meaning : B → Meaning MachineContext) (k k' : KernelView B MachineContext)
     (es : List Event) (i : ℕ) (e d : Event) (h h' end : Heard)
     → i < length es → e ≡ get_or es i d → k' ≡ view_after k (reaction_of meaning k e)

@@ -7,6 +7,7 @@ pub mod DumpedRuns
 pub mod EachLemmas
 pub mod FrameLemmas
 pub mod HeardLemmas
+pub mod IdleTurns
 pub mod MadeLemmas
 pub mod RefusalLaws
 pub mod SeenLemmas

@@ -8,8 +8,9 @@ pub mod DumpLaws
 pub mod DumpedRuns
 pub mod Dumps
 pub mod Frames
+pub mod Handlers
 pub mod Made
-pub mod PlacedLines
+pub mod PositionedLines
 pub mod RefusalLaws
 pub mod RefusalLines
 pub mod Refusals
@@ -19,8 +20,10 @@ pub mod Shown
 pub mod Sites
 pub mod Spinning
 pub mod Summaries
+pub mod Tables
 pub mod Times
 pub mod Timing
 pub mod Told
+pub mod Turns
 pub mod Values
 pub mod Watches

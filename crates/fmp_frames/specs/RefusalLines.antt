@@ -6,8 +6,8 @@ use Rattle.fmp_base.specs.Codes.{code_name}
 use Rattle.fmp_base.specs.Services.{service_name}
 use Rattle.fmp_json.specs.Members.{list_begin, list_end, number_member, object_line, text_member}
 use Rattle.fmp_frames.specs.declared.call_positions.CallPosition.{CallPosition}
-use Rattle.fmp_frames.specs.declared.placed_lines.LineForm.{LineForm}
-use Rattle.fmp_frames.specs.declared.placed_lines.LineForm.TheVariants as form
+use Rattle.fmp_frames.specs.declared.positioned_lines.LineForm.{LineForm}
+use Rattle.fmp_frames.specs.declared.positioned_lines.LineForm.TheVariants as form
 use Rattle.fmp_frames.specs.declared.refusals.Refusal.{Refusal}
 use Rattle.fmp_frames.specs.declared.refusals.Refusal.TheVariants as refusal
 use Rattle.fmp_frames.specs.declared.sites.CallSite.{CallSite}

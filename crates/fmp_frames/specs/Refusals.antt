@@ -65,7 +65,7 @@ refused_call s None answers = []
 refused_call s (Some call) answers =
     refused_by s call.service (refusal_of answers) (told_codes (refusal_of answers) call.is_tested answers)
 
--- the same of the call of a code at a place
+-- the same of the call of a code at a position
 abbrev pub refused_at : List BodyTables → CallSite → (answers : List Er) → List Refused
 refused_at code s answers = refused_call s (call_at code s) answers
 

@@ -1,4 +1,4 @@
--- The service calls of a code, by their places.
+-- The service calls of a code, by their positions.
 use Rattle.std.specs.Prelude.{ℕ, ◌+◌, ◌≤◌, List, [], ◌∷◌, ◌++◌, length, slice_get, Option, Some, None}
 use Rattle.std.specs.Prelude.{Bool, false, ◌&&◌, nat_eq, if◌then◌else◌}
 use Rattle.std.specs.List.{list_any}
@@ -15,23 +15,23 @@ site body pc = record { body = body; pc = pc }
 abbrev pub is_same_site : CallSite → CallSite → Bool
 is_same_site a b = nat_eq a.body b.body && nat_eq a.pc b.pc
 
--- an instruction at a place of a body, if it is a call
+-- an instruction at a position of a body, if it is a call
 abbrev pub call_here : (body pc : ℕ) → Instruction → List CallSite
 call_here body pc i = if is_call i then site body pc ∷ [] else []
 
--- the calls among instructions of a body, of which the first stands at a place
+-- the calls among instructions of a body, of which the first stands at a position
 abbrev pub sites_from : (body pc : ℕ) → List Instruction → List CallSite
 sites_from body pc [] = []
 sites_from body pc (i ∷ is) = call_here body pc i ++ sites_from body (pc + 1) is
 
 -- the calls of bodies, of which the first has this number
-abbrev pub sites_behind : (body : ℕ) → List BodyTables → List CallSite
-sites_behind body [] = []
-sites_behind body (b ∷ bs) = sites_from body 0 b.instructions ++ sites_behind (body + 1) bs
+abbrev pub sites_of_bodies : (body : ℕ) → List BodyTables → List CallSite
+sites_of_bodies body [] = []
+sites_of_bodies body (b ∷ bs) = sites_from body 0 b.instructions ++ sites_of_bodies (body + 1) bs
 
--- the calls of a code, in order of body and place
+-- the calls of a code, in order of body and position
 abbrev pub call_sites : List BodyTables → List CallSite
-call_sites code = sites_behind 0 code
+call_sites code = sites_of_bodies 0 code
 
 -- the bodies, and the instructions of each, are few enough for a site
 pub record HasSites (code : List BodyTables) : Type 0 where
@@ -62,6 +62,6 @@ abbrev pub call_in : Option BodyTables → (pc : ℕ) → Option SiteCall
 call_in None pc = None
 call_in (Some b) pc = call_by b.instructions (slice_get b.instructions pc)
 
--- the call of a code at a place, if there is one
+-- the call of a code at a position, if there is one
 abbrev pub call_at : List BodyTables → CallSite → Option SiteCall
 call_at code s = call_in (slice_get code s.body) s.pc

@@ -3,8 +3,6 @@ use Rattle.std.specs.Prelude.{ℕ, ◌+◌, ◌*◌, List, Option, None, Some, B
 use Rattle.std.specs.Prelude.{length, get_or, slice_get, pos, map}
 use Rattle.std.specs.List.{filter}
 use Rattle.std.specs.Int.{cast_unsigned, w32}
-use Rattle.fmp_base.specs.declared.codes.Er.{Er}
-use Rattle.fmp_base.specs.declared.codes.Er.TheVariants as er
 use Rattle.fmp_base.specs.declared.events.Line.{Line}
 use Rattle.fmp_base.specs.declared.events.Line.TheVariants as line
 use Rattle.fmp_base.specs.declared.events.StateWord.{StateWord}
@@ -23,6 +21,7 @@ use Rattle.fmp_base.specs.declared.states.WaitCause.TheVariants as cause
 use Rattle.fmp_base.specs.States.{idle}
 use Rattle.fmp_why.specs.declared.obstacles.SpinWait.{SpinWait}
 use Rattle.fmp_frames.specs.Frames.{FrameTable}
+use Rattle.fmp_frames.specs.Refusals.{is_ok}
 use Rattle.fmp_frames.specs.declared.variable.WaitedObject.{WaitedObject}
 use Rattle.fmp_frames.specs.declared.variable.WaitedObject.TheVariants as object
 use Rattle.fmp_frames.specs.declared.variable.Variable.{Variable}
@@ -124,10 +123,6 @@ runs_interrupt i x = is_interrupt i x.handler
 -- of a handler, given how many processors run it: 0 idle, 1 pending, 2 runs, 3 runs and is pending again
 abbrev pub handling : (running : ℕ) (is_pending : Bool) → ℕ
 handling running is_pending = 2 * one_if (nat_lt 0 running) + one_if is_pending
-
-abbrev pub is_ok : Er → Bool
-is_ok er.Ok = true
-is_ok code = false
 
 -- 2 for a fault on processor p, 1 for a call there that was refused, else 0
 abbrev pub refused_by : ℕ → Line → ℕ

@@ -1,6 +1,6 @@
 //! Where the calls of bodies stand in their text.
-ghost use Rattle.std.specs.Prelude.{◌≡◌, ◌+◌, ◌≤◌, ◌^◌, ◌++◌, IfOk, OnOk, count_by, drop, false, length, map};
-ghost use Rattle.std.specs.Prelude.{option_map, slice_get, take, unwrap_or};
+ghost use Rattle.std.specs.Prelude.{◌≡◌, ◌+◌, ◌≤◌, ◌^◌, ◌++◌, IfOk, OnOk, count_by, drop, length, map};
+ghost use Rattle.std.specs.Prelude.{slice_get, take};
 ghost use Rattle.fmp_instructions.specs.Instructions.{body_tables, code_tables};
 ghost use Rattle.fmp_frames.specs.CallPositions as spec;
 
@@ -17,14 +17,17 @@ pub struct CallPosition {
     pub column: usize,
 }
 
-/// The places of the calls of a body, in order.
+/// A body of a text.
 #[derive(Drop)]
-struct BodyCalls {
-    calls: Vec<CallPosition>,
+pub struct BodyCalls {
+    /// The line at which it begins, from 1.
+    pub head: u32,
+    /// Where its calls stand, in order.
+    pub calls: Vec<CallPosition>,
 }
 
 /// Where the calls of each body of a text stand. The code of a body has its calls in the order of the text, so the
-/// call at a place of the code is the one of the same number in the text.
+/// n-th call of the code is the n-th of the text.
 #[derive(Drop)]
 pub struct CallPositions {
     bodies: Vec<BodyCalls>,
@@ -41,7 +44,7 @@ impl Model for CallPositions {
 }
 
 /// Whether a token begins a body.
-fn begins_body(kind: TokenKind) -> bool
+pub fn begins_body(kind: TokenKind) -> bool
     ensures { result ≡ spec.is_head kind }
 {
     match kind {
@@ -51,7 +54,7 @@ fn begins_body(kind: TokenKind) -> bool
 }
 
 /// Whether the token at a place begins a body.
-fn begins_at(tokens: &Tokens<'_>, at: usize) -> bool
+pub fn begins_at(tokens: &Tokens<'_>, at: usize) -> bool
     ensures { result ≡ spec.head_at tokens.now at }
 {
     match tokens.kind(at) {
@@ -61,8 +64,8 @@ fn begins_at(tokens: &Tokens<'_>, at: usize) -> bool
 }
 
 /// Whether the token at a place names a service call.
-fn is_service_at(tokens: &Tokens<'_>, at: usize) -> bool
-    ensures { result ≡ unwrap_or (option_map (λ t. spec.is_service t.kind) (slice_get tokens.now at)) false }
+pub fn is_service_at(tokens: &Tokens<'_>, at: usize) -> bool
+    ensures { result ≡ spec.is_service_at tokens.now at }
 {
     match tokens.kind(at) {
         Some(TokenKind::Service(_)) => true,
@@ -70,100 +73,130 @@ fn is_service_at(tokens: &Tokens<'_>, at: usize) -> bool
     }
 }
 
-/// Where the token at a place of a list stands in a text whose lines begin at these places.
-fn position_at(begins: &[u32], tokens: &Tokens<'_>, at: usize) -> CallPosition
-    ensures { result ≡ spec.position_at begins.now tokens.now at }
+/// The line of the token at a place, from 1; 0 where there is none.
+pub fn line_at(tokens: &Tokens<'_>, at: usize) -> u32
+    ensures { result ≡ spec.line_at tokens.now at }
 {
     match tokens.position(at) {
+        Some(position) => position.line,
+        None => 0,
+    }
+}
+
+/// The tokens of a text, and the positions where its lines begin.
+#[derive(Clone, Copy)]
+struct TokenLines<'a> {
+    begins: &'a [u32],
+    tokens: &'a Tokens<'a>,
+}
+
+/// Where the token at a place of a text stands.
+fn position_at(text: TokenLines<'_>, at: usize) -> CallPosition
+    ensures { result ≡ spec.position_at text.entry.begins.now text.entry.tokens.now at }
+{
+    match text.tokens.position(at) {
         Some(position) => CallPosition {
             line: position.line,
-            column: column_of(begins, position.line, position.start),
+            column: column_of(text.begins, position.line, position.start),
         },
         None => CallPosition { line: 0, column: 1 },
     }
 }
 
-/// Adds where the token at a place of a list stands, if it names a service call.
+/// Adds where the token at a place of a text stands, if it names a service call.
 #[tactic(auto, using(crate::proofs::Bodies::call_position_by))]
 fn add_call_at(
-    begins: &[u32],
-    tokens: &Tokens<'_>,
+    text: TokenLines<'_>,
     at: usize,
     calls: &mut Vec<CallPosition>,
 ) -> Result<(), AllocError>
-    ensures { OnOk result (calls.new.items ≡ calls.old.items ++ spec.call_position_at begins.now tokens.now at) }
+    ensures { OnOk result (calls.new.items
+        ≡ calls.old.items ++ spec.call_position_at text.entry.begins.now text.entry.tokens.now at) }
 {
-    if !is_service_at(tokens, at) {
+    if !is_service_at(text.tokens, at) {
         return Ok(());
     }
-    calls.push(position_at(begins, tokens, at))?;
+    calls.push(position_at(text, at))?;
     Ok(())
 }
 
 /// Where the calls stand from a token on, up to where the next body begins.
-fn calls_behind(
+fn calls_after(
     alloc: Global,
-    begins: &[u32],
-    tokens: &Tokens<'_>,
+    text: TokenLines<'_>,
     start: usize,
 ) -> Result<Vec<CallPosition>, AllocError>
-    ensures { IfOk result (λ calls. calls.items ≡ spec.call_positions begins.now (drop start tokens.now)) }
+    ensures { IfOk result (λ calls. calls.items
+        ≡ spec.call_positions text.entry.begins.now (drop start text.entry.tokens.now)) }
 {
     let mut calls = Vec::new(alloc);
-    for at in start..tokens.len() {
-        if begins_at(tokens, at) {
+    for at in start..text.tokens.len() {
+        if begins_at(text.tokens, at) {
             return Ok(calls);
         }
-        add_call_at(begins, tokens, at, &mut calls)?;
+        add_call_at(text, at, &mut calls)?;
     }
     Ok(calls)
 }
 
-/// Adds the calls of the body that the token at a place begins, if it begins one. The next token stands at the place
-/// after it.
+/// Adds the body that the token at a place begins, if it begins one. The next token stands at the place after it.
 fn add_body_at(
     alloc: Global,
-    begins: &[u32],
-    tokens: &Tokens<'_>,
+    text: TokenLines<'_>,
     at: usize,
     next: usize,
     bodies: &mut Vec<BodyCalls>,
 ) -> Result<(), AllocError>
     requires { next ≡ at + 1 }
-    ensures { OnOk result (map spec.calls_of bodies.new.items
-        ≡ map spec.calls_of bodies.old.items ++ spec.body_at begins.now tokens.now at) }
+    ensures { OnOk result (map spec.text_body bodies.new.items
+        ≡ map spec.text_body bodies.old.items ++ spec.body_at text.entry.begins.now text.entry.tokens.now at) }
 {
-    if !begins_at(tokens, at) {
+    if !begins_at(text.tokens, at) {
         return Ok(());
     }
-    let calls = calls_behind(alloc, begins, tokens, next)?;
-    bodies.push(BodyCalls { calls })?;
+    let calls = calls_after(alloc, text, next)?;
+    bodies.push(BodyCalls {
+        head: line_at(text.tokens, at),
+        calls,
+    })?;
     Ok(())
 }
 
-/// The calls of the bodies that begin in tokens.
-fn bodies_in(
-    alloc: Global,
-    begins: &[u32],
-    tokens: &Tokens<'_>,
-) -> Result<Vec<BodyCalls>, AllocError>
-    ensures { IfOk result (λ bodies. map spec.calls_of bodies.items ≡ spec.bodies_in begins.now tokens.now) }
+/// The bodies that begin in the tokens of a text.
+fn bodies_in(alloc: Global, text: TokenLines<'_>) -> Result<Vec<BodyCalls>, AllocError>
+    ensures { IfOk result (λ bodies. map spec.text_body bodies.items
+        ≡ spec.bodies_in text.entry.begins.now text.entry.tokens.now) }
 {
     let mut bodies = Vec::new(alloc);
-    for at in 0..tokens.len() {
-        add_body_at(alloc, begins, tokens, at, at + 1, &mut bodies)?;
+    for at in 0..text.tokens.len() {
+        add_body_at(alloc, text, at, at + 1, &mut bodies)?;
     }
     Ok(bodies)
 }
 
-/// The calls of the bodies of a text with these tokens.
+/// The bodies of a text with these tokens.
 fn bodies_of(alloc: Global, src: &[u8], tokens: &Tokens<'_>) -> Result<Vec<BodyCalls>, AllocError>
     requires { length src.now ≤ 2 ^ 20 }
-    ensures { IfOk result (λ bodies. map spec.calls_of bodies.items
+    ensures { IfOk result (λ bodies. map spec.text_body bodies.items
         ≡ spec.bodies_in (spec.line_begins src.now) tokens.now) }
 {
     let begins = line_begins(alloc, src)?;
-    bodies_in(alloc, &begins, tokens)
+    let text = TokenLines {
+        begins: &begins,
+        tokens,
+    };
+    bodies_in(alloc, text)
+}
+
+/// The bodies of a text that an image was built of; none of a text that is too long. `AllocError` if memory runs out.
+pub fn text_bodies(alloc: Global, src: &[u8]) -> Result<Vec<BodyCalls>, AllocError>
+    ensures { IfOk result (λ bodies. spec.AreBodiesOf src.now (map spec.text_body bodies.items)) }
+{
+    match tokens(alloc, src) {
+        Ok(list) => bodies_of(alloc, src, &list.tokens),
+        Err(TextFault::TooLong) => Ok(Vec::new(alloc)),
+        Err(TextFault::Memory) => Err(AllocError),
+    }
 }
 
 /// Whether an instruction is a call.
@@ -177,7 +210,7 @@ pub fn is_call(instruction: &Instruction) -> bool
 }
 
 /// How many of these instructions are calls.
-fn call_count(instructions: &[Instruction]) -> usize
+pub fn call_count(instructions: &[Instruction]) -> usize
     ensures { result ≡ count_by spec.is_call instructions.now }
 {
     instructions.iter().filter(|i| is_call(*i)).count()
@@ -205,7 +238,8 @@ fn text_counts(alloc: Global, bodies: &[BodyCalls]) -> Result<Vec<usize>, AllocE
     Ok(counts)
 }
 
-/// The place of the call at a place among instructions, whose calls stand at these places.
+/// Where the call at a position of a body stands in the text, given where the calls of the body do; the next one if
+/// none is there.
 fn position_among(
     instructions: &[Instruction],
     calls: &[CallPosition],
@@ -222,21 +256,17 @@ impl CallPositions {
     ghost use Rattle.fmp_instructions.specs.Instructions.{code_tables};
     ghost use Rattle.fmp_frames.specs.CallPositions.{AreCallsOf, fits, position_of};
 
-    /// The positions of the calls of a text that an image was built of; none for a text that is too long. `AllocError`
-    /// if memory runs out.
+    /// Where the calls of a text stand that an image was built of; none for a text that is too long. `AllocError` if
+    /// memory runs out.
     pub fn new(alloc: Global, src: &[u8]) -> Result<CallPositions, AllocError>
         ensures { IfOk result (λ positions. AreCallsOf src.now positions) }
     {
-        let bodies = match tokens(alloc, src) {
-            Ok(list) => bodies_of(alloc, src, &list.tokens)?,
-            Err(TextFault::TooLong) => Vec::new(alloc),
-            Err(TextFault::Memory) => return Err(AllocError),
-        };
+        let bodies = text_bodies(alloc, src)?;
         Ok(CallPositions { bodies })
     }
 
-    /// Where the call stands at a place of the body of this number of this code, or the next call of the body if none
-    /// is there.
+    /// Where the call at a position of the body of this number of this code stands, or the next call of the body if
+    /// none is there.
     pub fn position(&self, code: &Code, body: u8, pc: u16) -> Option<CallPosition>
         ensures { result ≡ position_of (code_tables code.now) self.now body pc }
     {

@@ -2,6 +2,7 @@
 use crate::call_counts::{CallerService, answers, is_same_caller, times, waits};
 use crate::told::{CallTold, ToldCalls};
 use fmp_base::{Er, System};
+use fmp_json::{append, append_number};
 use fmp_named::append_caller;
 use itoa::Buffer;
 use std::alloc::{AllocError, Global};
@@ -30,14 +31,6 @@ const SERVICES: usize = 11;
 struct CallRow {
     site: CallerService,
     name: Vec<u8>,
-}
-
-fn append(text: &[u8], out: &mut Vec<u8>) -> Result<(), AllocError> {
-    out.extend_from_slice(text)
-}
-
-fn append_count(count: usize, out: &mut Vec<u8>) -> Result<(), AllocError> {
-    append(Buffer::new().format(count).as_bytes(), out)
 }
 
 /// This many spaces.
@@ -122,7 +115,7 @@ fn append_answer(
     append(between, out)?;
     append(code.name().as_bytes(), out)?;
     append(b" ", out)?;
-    append_count(count, out)?;
+    append_number(count as u64, out)?;
     Ok(true)
 }
 

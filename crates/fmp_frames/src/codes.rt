@@ -2,7 +2,8 @@
 ghost use Rattle.std.specs.Prelude.{◌≡◌};
 ghost use Rattle.fmp_frames.specs.Values as spec;
 
-use fmp_base::{Er, Handler, Line, Lock, Phase, StateWord, WaitCause};
+use crate::refusals::is_ok;
+use fmp_base::{Handler, Line, Lock, Phase, StateWord, WaitCause};
 
 /// 1 if it holds, else 0.
 pub fn one_if(holds: bool) -> u32
@@ -110,15 +111,6 @@ pub fn handling(running: usize, is_pending: bool) -> u32
     ensures { result ≡ spec.handling running is_pending }
 {
     2 * one_if(running > 0) + one_if(is_pending)
-}
-
-fn is_ok(code: Er) -> bool
-    ensures { result ≡ spec.is_ok code }
-{
-    match code {
-        Er::Ok => true,
-        _ => false,
-    }
 }
 
 /// The number for a processor, by a line: 2 if the line tells a fault there, 1 a call there that is answered otherwise

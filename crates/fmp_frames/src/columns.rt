@@ -4,7 +4,7 @@ ghost use Rattle.fmp_frames.specs.CallPositions as spec;
 
 use std::alloc::{AllocError, Global};
 
-/// Where the lines of a text begin, by their places from 0, in order.
+/// The positions, from 0, where the lines of a text begin, in order.
 pub fn line_begins(alloc: Global, text: &[u8]) -> Result<Vec<u32>, AllocError>
     requires { length text.now ≤ 2 ^ 20 }
     ensures { IfOk result (λ begins. begins.items ≡ spec.line_begins text.now) }
@@ -19,8 +19,8 @@ pub fn line_begins(alloc: Global, text: &[u8]) -> Result<Vec<u32>, AllocError>
     Ok(begins)
 }
 
-/// The column, from 1 and counted in bytes, of the byte at a place of a line, the one of this number from 1. Lines
-/// begin at these places.
+/// The column, from 1 and counted in bytes, of the byte at a position in the line of this number, from 1. Lines begin
+/// at these positions.
 pub fn column_of(begins: &[u32], line: u32, start: u32) -> usize
     ensures { result ≡ spec.column_of begins.now line start }
 {

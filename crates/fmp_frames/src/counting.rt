@@ -194,20 +194,27 @@ fn is_keeper(kept: Option<u8>, task: usize) -> bool
     }
 }
 
-/// The counts of a task after one more event, which told these lines or kept the place of the task `kept`, if of one;
-/// tasks were in the states `was` before it and are in those of `is` after it.
-pub fn counted(
-    tally: &TaskTally,
-    task: usize,
-    lines: &[Line],
-    kept: Option<u8>,
-    was: &[TaskState],
-    is: &[TaskState],
-) -> TaskTally
-    ensures { result ≡ spec.counted task lines.now kept was.now is.now tally.now }
+/// What an event did to tasks.
+#[derive(Clone, Copy)]
+pub struct TaskChanges<'a> {
+    /// The lines that it told.
+    pub lines: &'a [Line],
+    /// The task whose place it kept, if it did that.
+    pub kept: Option<u8>,
+    /// The states of the tasks before it.
+    pub was: &'a [TaskState],
+    /// Their states after it.
+    pub is: &'a [TaskState],
+}
+
+/// The counts of a task after one more event.
+pub fn counted(tally: &TaskTally, task: usize, event: TaskChanges<'_>) -> TaskTally
+    ensures { result ≡ spec.counted task event.entry.lines.now event.entry.kept event.entry.was.now event.entry.is.now
+        tally.now }
 {
-    let preempted = is_preempted(word_at(was, task), word_at(is, task));
-    let keeps = one_if(is_keeper(kept, task));
+    let lines = event.lines;
+    let preempted = is_preempted(word_at(event.was, task), word_at(event.is, task));
+    let keeps = one_if(is_keeper(event.kept, task));
     TaskTally {
         starts: more(tally.starts, starts_in(lines, task)),
         calls: more(tally.calls, calls_in(lines, task)),

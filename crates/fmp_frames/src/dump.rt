@@ -6,11 +6,12 @@ ghost use Rattle.fmp_frames.specs.Dumps as spec;
 ghost use Rattle.fmp_frames.specs.Frames.{table_of};
 
 use crate::head::DumpHead;
-use crate::text::{append, append_bits, append_identifier, append_number};
+use crate::text::{append_bits, append_identifier};
 use crate::values::values_of;
 use crate::variable::Variable;
 use crate::{Frame, Viewer};
 use fmp_base::System;
+use fmp_json::{append, append_number};
 use std::alloc::{AllocError, Global};
 
 /// The dump of a run so far. If memory runs out, it has an unfinished end.
@@ -33,9 +34,9 @@ fn append_binary(width: u8, value: u64, out: &mut Vec<u8>) -> Result<(), AllocEr
     if width == 1 {
         return append_bits(value, 1, out);
     }
-    append("b", out)?;
+    append(b"b", out)?;
     append_bits(value, width, out)?;
-    append(" ", out)
+    append(b" ", out)
 }
 
 /// Appends the value of the variable at this place.
@@ -49,7 +50,7 @@ fn append_value(
 {
     append_binary(variable.width(), value, out)?;
     append_identifier(place, out)?;
-    append("\n", out)
+    append(b"\n", out)
 }
 
 /// Appends the values of all variables.
@@ -72,9 +73,9 @@ fn append_all(variables: &[Variable], values: &[u64], out: &mut Vec<u8>) -> Resu
 fn append_first(variables: &[Variable], values: &[u64], out: &mut Vec<u8>) -> Result<(), AllocError>
     ensures { OnOk result (out.new.items ≡ out.old.items ++ spec.first_text variables.now values.now) }
 {
-    append("#0\n$dumpvars\n", out)?;
+    append(b"#0\n$dumpvars\n", out)?;
     append_all(variables, values, out)?;
-    append("$end\n", out)
+    append(b"$end\n", out)
 }
 
 /// Appends a value if it is not as it was before.
@@ -124,9 +125,9 @@ fn append_changed(
 fn append_time(event: u32, out: &mut Vec<u8>) -> Result<(), AllocError>
     ensures { OnOk result (out.new.items ≡ out.old.items ++ spec.time_text event) }
 {
-    append("#", out)?;
-    append_number(event, out)?;
-    append("\n", out)
+    append(b"#", out)?;
+    append_number(u64::from(event), out)?;
+    append(b"\n", out)
 }
 
 /// Appends the time of an event, and the values that it has changed.

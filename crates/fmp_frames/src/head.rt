@@ -5,9 +5,10 @@ ghost use Rattle.fmp_frames.specs.Declarations.{variables_of};
 ghost use Rattle.fmp_frames.specs.Dumps as spec;
 
 use crate::declarations::{Declaration, Scope, declarations_of, variables_in};
-use crate::text::{append, append_bytes, append_identifier, append_number};
+use crate::text::append_identifier;
 use crate::variable::Variable;
 use fmp_base::System;
+use fmp_json::{append, append_number};
 use std::alloc::{AllocError, Global};
 
 const COMMENT: &str = "$comment
@@ -36,20 +37,20 @@ fn append_scope_name(scope: Scope, out: &mut Vec<u8>) -> Result<(), AllocError>
     ensures { OnOk result (out.new.items ≡ out.old.items ++ spec.scope_name scope) }
 {
     match scope {
-        Scope::System => append("fmp", out),
+        Scope::System => append(b"fmp", out),
         Scope::Processor(place) => {
-            append("p", out)?;
-            append_number(u32::from(place) + 1, out)
+            append(b"p", out)?;
+            append_number(u64::from(place) + 1, out)
         }
-        Scope::Tasks => append("tasks", out),
-        Scope::Cyclics => append("cyclic", out),
-        Scope::Interrupts => append("interrupt", out),
+        Scope::Tasks => append(b"tasks", out),
+        Scope::Cyclics => append(b"cyclic", out),
+        Scope::Interrupts => append(b"interrupt", out),
         Scope::Interrupt(number) => {
-            append("i", out)?;
-            append_number(u32::from(number), out)
+            append(b"i", out)?;
+            append_number(u64::from(number), out)
         }
-        Scope::Objects => append("objects", out),
-        Scope::Named(name) => append_bytes(name.as_bytes(), out),
+        Scope::Objects => append(b"objects", out),
+        Scope::Named(name) => append(name.as_bytes(), out),
     }
 }
 
@@ -57,11 +58,11 @@ fn append_scope_name(scope: Scope, out: &mut Vec<u8>) -> Result<(), AllocError>
 fn append_opening(variable: Variable, out: &mut Vec<u8>) -> Result<(), AllocError>
     ensures { OnOk result (out.new.items ≡ out.old.items ++ spec.opening_text variable) }
 {
-    append("$var ", out)?;
-    append(variable.kind(), out)?;
-    append(" ", out)?;
-    append_number(u32::from(variable.width()), out)?;
-    append(" ", out)
+    append(b"$var ", out)?;
+    append(variable.kind().as_bytes(), out)?;
+    append(b" ", out)?;
+    append_number(u64::from(variable.width()), out)?;
+    append(b" ", out)
 }
 
 /// Appends the declaration of the variable at this place.
@@ -70,9 +71,9 @@ fn append_variable(place: usize, variable: Variable, out: &mut Vec<u8>) -> Resul
 {
     append_opening(variable, out)?;
     append_identifier(place, out)?;
-    append(" ", out)?;
-    append(variable.name(), out)?;
-    append(" $end\n", out)
+    append(b" ", out)?;
+    append(variable.name().as_bytes(), out)?;
+    append(b" $end\n", out)
 }
 
 fn append_declaration(
@@ -84,12 +85,12 @@ fn append_declaration(
 {
     match declaration {
         Declaration::Begin(scope) => {
-            append("$scope module ", out)?;
+            append(b"$scope module ", out)?;
             append_scope_name(scope, out)?;
-            append(" $end\n", out)
+            append(b" $end\n", out)
         }
         Declaration::Shown(variable) => append_variable(place, variable, out),
-        Declaration::End => append("$upscope $end\n", out),
+        Declaration::End => append(b"$upscope $end\n", out),
     }
 }
 
@@ -119,10 +120,10 @@ fn append_declarations(declarations: &[Declaration], out: &mut Vec<u8>) -> Resul
 fn append_head(declarations: &[Declaration], out: &mut Vec<u8>) -> Result<(), AllocError>
     ensures { OnOk result (out.new.items ≡ out.old.items ++ spec.head_of declarations.now) }
 {
-    append(COMMENT, out)?;
-    append("$timescale 1 ns $end\n", out)?;
+    append(COMMENT.as_bytes(), out)?;
+    append(b"$timescale 1 ns $end\n", out)?;
     append_declarations(declarations, out)?;
-    append("$enddefinitions $end\n", out)
+    append(b"$enddefinitions $end\n", out)
 }
 
 impl DumpHead {

@@ -15,11 +15,12 @@ mod counting;
 mod declarations;
 mod dump;
 mod frame;
+mod handlers;
 mod head;
 mod laws;
 mod made;
-mod placed_lines;
 mod places;
+mod positioned_lines;
 mod reading;
 mod refusal_lines;
 mod refusals;
@@ -42,18 +43,22 @@ mod variable;
 mod watching;
 
 pub use answers::{SiteAnswer, answers_in};
-pub use call_positions::{CallPosition, CallPositions};
+pub use call_positions::{
+    BodyCalls, CallPosition, CallPositions, begins_at, begins_body, call_count, is_call,
+    is_service_at, line_at, text_bodies,
+};
 pub use call_table::append_calls;
 pub use comparing::{ToldRun, append_difference, first_difference, told_on};
 pub use counting::TaskTally;
 pub use dump::Waves;
 pub use frame::{Frame, last_frame};
+pub use handlers::is_handled;
 pub use laws::{
     dumps_are_of_their_frames, frames_are_of_the_run, identifiers_differ,
     refused_calls_are_never_done,
 };
 pub use made::{CodePositions, event_position, positions_made};
-pub use placed_lines::{LineForm, append_placed};
+pub use positioned_lines::{EventLines, LineForm, append_positioned};
 pub use refusal_lines::append_refused;
 pub use refusals::{Refusal, RefusedCall, refused_calls};
 pub use response_table::append_responses;

@@ -1,30 +1,19 @@
 //! Lines that tell calls that are refused.
-ghost use Rattle.std.specs.Prelude.{◌≡◌, ◌++◌, IfOk, OnOk, decimal};
+ghost use Rattle.std.specs.Prelude.{◌≡◌, ◌++◌, IfOk, OnOk};
 ghost use Rattle.std.specs.List.{flat_map};
 ghost use Rattle.fmp_frames.specs.RefusalLines as spec;
 ghost use Rattle.fmp_frames.specs.Refusals.{refused_of};
 
 use crate::call_positions::CallPosition;
-use crate::placed_lines::LineForm;
+use crate::positioned_lines::LineForm;
 use crate::refusals::{Refusal, RefusedCall};
 use crate::sites::CallSite;
 use fmp_base::Er;
-use fmp_json::{begin, begin_list, end_list, finish, number_member, text_member};
-use itoa::Buffer;
+use fmp_json::{
+    append, append_number, begin, begin_list, end_list, finish, number_member, text_member,
+};
 use json::Writer;
 use std::alloc::{AllocError, Global};
-
-fn append(text: &[u8], out: &mut Vec<u8>) -> Result<(), AllocError>
-    ensures { OnOk result (out.new.items ≡ out.old.items ++ text.now) }
-{
-    out.extend_from_slice(text)
-}
-
-fn append_number(number: u64, out: &mut Vec<u8>) -> Result<(), AllocError>
-    ensures { OnOk result (out.new.items ≡ out.old.items ++ decimal number) }
-{
-    append(Buffer::new().format(number).as_bytes(), out)
-}
 
 /// How often a call was refused, in words.
 fn refusal_words(refusal: Refusal) -> &'static [u8]
@@ -167,8 +156,8 @@ fn record_of(
     finish(writer)
 }
 
-/// Appends a line on a refused call: its place in this file, or in the code if that is not known; which call it is; how
-/// often it was refused, and by which codes. A record does not name the file. `AllocError` if memory runs out.
+/// Appends a line on a refused call: its position in this file, or in the code if that is not known; which call it is;
+/// how often it was refused, and by which codes. A record does not name the file. `AllocError` if memory runs out.
 pub fn append_refused(
     alloc: Global,
     form: LineForm,

@@ -33,7 +33,7 @@ pub struct RefusedCall {
 }
 
 /// Whether a call with this answer is done.
-fn is_ok(code: Er) -> bool
+pub fn is_ok(code: Er) -> bool
     ensures { result ≡ spec.is_ok code }
 {
     match code {
@@ -132,8 +132,8 @@ fn add_call(
     Ok(())
 }
 
-/// Adds the call of a code at a place that was answered these codes, each once, if it is one that is told: no answer is
-/// E_OK; or one is E_PAR, E_ID or E_CTX, and its body does not test what it is answered. `AllocError` if memory runs
+/// Adds the call of a code at a position that was answered these codes, each once, if it is one that is told: no answer
+/// is E_OK; or one is E_PAR, E_ID or E_CTX, and its body does not test what it is answered. `AllocError` if memory runs
 /// out.
 pub fn add_refused(
     alloc: Global,
@@ -169,7 +169,7 @@ fn refused_among(
     Ok(refused)
 }
 
-/// The calls of a code that are refused, where calls got these answers, in order of body and place. `AllocError` if
+/// The calls of a code that are refused, where calls got these answers, in order of body and position. `AllocError` if
 /// memory runs out.
 pub fn refused_calls(
     alloc: Global,

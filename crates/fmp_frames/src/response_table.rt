@@ -1,9 +1,9 @@
 //! The table of the responses of a run as text: one row for each handler that woke a task.
 use crate::responses::Responses;
 use crate::summaries::ResponseSummary;
-use crate::table::{append_cell, append_name};
-use crate::text::append;
+use crate::table::{RowName, append_cell, append_head, append_name};
 use fmp_base::{Handler, System};
+use fmp_json::append;
 use itoa::Buffer;
 use std::alloc::{AllocError, Global};
 
@@ -24,38 +24,37 @@ fn name_width(sys: &System) -> usize {
 
 /// The row of the heads.
 fn append_heads(width: usize, out: &mut Vec<u8>) -> Result<(), AllocError> {
-    append_name(REQUEST.as_bytes(), width, out)?;
+    let name = REQUEST.as_bytes();
+    append_name(RowName { name, width }, out)?;
     for head in &HEADS {
-        append_cell(head, head, out)?;
+        append_head(head, out)?;
     }
-    append("\n", out)
+    append(b"\n", out)
 }
 
-/// The row of a handler of this name.
+/// The row of a handler.
 fn append_summary(
-    name: &[u8],
-    width: usize,
+    row: RowName<'_>,
     summary: ResponseSummary,
     out: &mut Vec<u8>,
 ) -> Result<(), AllocError> {
-    append_name(name, width, out)?;
+    append_name(row, out)?;
     append_cell(HEADS[0], Buffer::new().format(summary.count), out)?;
     append_cell(HEADS[1], Buffer::new().format(summary.median), out)?;
     append_cell(HEADS[2], Buffer::new().format(summary.worst), out)?;
-    append("\n", out)
+    append(b"\n", out)
 }
 
-/// The row of a handler of this name, if it woke a task that ran.
+/// The row of a handler, if it woke a task that ran.
 fn append_handler(
     alloc: Global,
     responses: &Responses,
     handler: Handler,
-    name: &[u8],
-    width: usize,
+    row: RowName<'_>,
     out: &mut Vec<u8>,
 ) -> Result<(), AllocError> {
     match responses.summary(alloc, handler)? {
-        Some(summary) => append_summary(name, width, summary, out),
+        Some(summary) => append_summary(row, summary, out),
         None => Ok(()),
     }
 }
@@ -68,9 +67,10 @@ fn append_interrupts(
     out: &mut Vec<u8>,
 ) -> Result<(), AllocError> {
     for place in 0..32u8 {
-        let name = format!(in alloc; "#{}", place + 1)?;
+        let text = format!(in alloc; "#{}", place + 1)?;
+        let name = text.as_bytes();
         let handler = Handler::Interrupt(place);
-        append_handler(alloc, responses, handler, name.as_bytes(), width, out)?;
+        append_handler(alloc, responses, handler, RowName { name, width }, out)?;
     }
     Ok(())
 }
@@ -86,7 +86,7 @@ fn append_cyclics(
     for (place, config) in sys.cyclics.iter().enumerate() {
         if let Ok(place) = u8::try_from(place) {
             let (handler, name) = (Handler::Cyclic(place), config.name.as_bytes());
-            append_handler(alloc, responses, handler, name, width, out)?;
+            append_handler(alloc, responses, handler, RowName { name, width }, out)?;
         }
     }
     Ok(())

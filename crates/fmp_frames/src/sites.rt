@@ -1,4 +1,4 @@
-//! The service calls of a code, by their places.
+//! The service calls of a code, by their positions.
 ghost use Rattle.std.specs.Prelude.{◌≡◌, ◌≤◌, ◌++◌, ◌∷◌, [], IfOk, OnOk, length, slice_get};
 ghost use Rattle.std.specs.Prelude.{if◌then◌else◌};
 ghost use Rattle.std.specs.List.{list_any};
@@ -11,7 +11,7 @@ use fmp_base::Service;
 use fmp_instructions::{Code, Instruction};
 use std::alloc::{AllocError, Global};
 
-/// A service call in a body: the place of the body, and of the instruction in it.
+/// A service call in a body: the place of the body, and the position of the instruction in it.
 #[derive(Clone, Copy, Debug, PartialEq, Eq)]
 pub struct CallSite {
     pub body: u8,
@@ -63,7 +63,7 @@ fn add_sites(
     Ok(())
 }
 
-/// The calls of a code, in order of body and place. `AllocError` if memory runs out.
+/// The calls of a code, in order of body and position. `AllocError` if memory runs out.
 pub fn call_sites(alloc: Global, code: &Code) -> Result<Vec<CallSite>, AllocError>
     requires { HasSites (code_tables code.now) }
     ensures { IfOk result (λ sites. sites.items ≡ spec.call_sites (code_tables code.now)) }
@@ -119,7 +119,7 @@ fn call_of(instructions: &[Instruction], instruction: &Instruction) -> Option<Si
     }
 }
 
-/// Which call the instruction at a place is, if it is one.
+/// Which call the instruction at a position is, if it is one.
 fn call_among(instructions: &[Instruction], pc: u16) -> Option<SiteCall>
     ensures { result ≡ spec.call_by instructions.now (slice_get instructions.now pc) }
 {
@@ -129,7 +129,7 @@ fn call_among(instructions: &[Instruction], pc: u16) -> Option<SiteCall>
     }
 }
 
-/// The call of a code at a place, if there is one.
+/// The call of a code at a position, if there is one.
 pub fn call_at(code: &Code, site: CallSite) -> Option<SiteCall>
     ensures { result ≡ spec.call_at (code_tables code.now) site }
 {

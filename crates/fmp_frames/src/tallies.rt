@@ -3,9 +3,9 @@ ghost use Rattle.std.specs.Prelude.{◌≡◌, [], length, IfOk, get_or};
 ghost use Rattle.fmp_frames.specs.Frames.{each, table_of};
 ghost use Rattle.fmp_frames.specs.Counting as spec;
 
-use crate::counting::{NOTHING, TaskTally, counted, keeper, more, spun};
+use crate::counting::{NOTHING, TaskChanges, TaskTally, counted, keeper, more, spun};
 use crate::{Frame, Viewer};
-use fmp_base::{Line, Processor, TaskState};
+use fmp_base::{Processor, TaskState};
 use fmp_why::SpinWait;
 use std::alloc::{AllocError, Global};
 
@@ -32,24 +32,21 @@ fn tally_at(tallies: &[TaskTally], task: usize) -> TaskTally
     }
 }
 
-/// The counts of this many tasks after an event that told these lines, or kept the place of the first task.
-/// `AllocError` if memory runs out.
+/// The counts of this many tasks after one more event. `AllocError` if memory runs out.
 fn all_counted(
     alloc: Global,
     count: usize,
     before: &[TaskTally],
-    lines: &[Line],
-    kept: Option<u8>,
-    was: &[TaskState],
-    is: &[TaskState],
+    event: TaskChanges<'_>,
 ) -> Result<Vec<TaskTally>, AllocError>
     ensures { IfOk result (λ tallies. tallies.items
-        ≡ each (λ t. spec.counted t lines.now kept was.now is.now (get_or before.now t spec.nothing)) count) }
+        ≡ each (λ t. spec.counted t event.entry.lines.now event.entry.kept event.entry.was.now event.entry.is.now
+        (get_or before.now t spec.nothing)) count) }
 {
     let mut tallies = Vec::with_capacity(alloc, count)?;
     for task in 0..count {
         let tally = tally_at(before, task);
-        tallies.push(counted(&tally, task, lines, kept, was, is))?;
+        tallies.push(counted(&tally, task, event))?;
     }
     Ok(tallies)
 }
@@ -98,8 +95,14 @@ impl Tallies {
         ensures { IfOk result (λ made. spec.counts_of made ≡ spec.first_counts (table_of setup.now)) }
     {
         let states = setup.states.as_slice();
+        let event = TaskChanges {
+            lines: &setup.lines,
+            kept: None,
+            was: &[],
+            is: states,
+        };
         Ok(Tallies {
-            tallies: all_counted(alloc, states.len(), &[], &setup.lines, None, &[], states)?,
+            tallies: all_counted(alloc, states.len(), &[], event)?,
             shown: copied(alloc, states)?,
             spins: all_spun(alloc, states.len(), &[], &[], &[])?,
             events: 0,
@@ -111,15 +114,13 @@ impl Tallies {
         ensures { IfOk result (λ tallies. tallies.items
             ≡ (spec.counts_after (spec.counts_of self.now) (table_of frame.now)).tallies) }
     {
-        all_counted(
-            alloc,
-            self.tallies.len(),
-            &self.tallies,
-            &frame.lines,
-            keeper(frame.kept, &frame.processors),
-            &self.shown,
-            &frame.states,
-        )
+        let event = TaskChanges {
+            lines: &frame.lines,
+            kept: keeper(frame.kept, &frame.processors),
+            was: &self.shown,
+            is: &frame.states,
+        };
+        all_counted(alloc, self.tallies.len(), &self.tallies, event)
     }
 
     /// After how many events each task spun, after one more.

@@ -1,30 +1,8 @@
-//! Pieces of a dump at the end of a text. If memory runs out, the text has an unfinished end.
-ghost use Rattle.std.specs.Prelude.{◌≡◌, ◌++◌, ◌∷◌, [], ◌+◌, ◌/◌, ◌%◌, ◌^◌, ◌<◌, ◌≤◌, decimal, OnOk};
+//! Identifiers and bits of a dump. If memory runs out, the text has an unfinished end.
+ghost use Rattle.std.specs.Prelude.{◌≡◌, ◌++◌, ◌∷◌, [], ◌+◌, ◌/◌, ◌%◌, ◌^◌, ◌<◌, ◌≤◌, OnOk};
 ghost use Rattle.fmp_frames.specs.Dumps as spec;
 
-use itoa::Buffer;
 use std::alloc::AllocError;
-
-/// Appends a text.
-pub fn append(text: &str, out: &mut Vec<u8>) -> Result<(), AllocError>
-    ensures { OnOk result (out.new.items ≡ out.old.items ++ text.now) }
-{
-    out.extend_from_slice(text.as_bytes())
-}
-
-/// Appends bytes.
-pub fn append_bytes(bytes: &[u8], out: &mut Vec<u8>) -> Result<(), AllocError>
-    ensures { OnOk result (out.new.items ≡ out.old.items ++ bytes.now) }
-{
-    out.extend_from_slice(bytes)
-}
-
-/// Appends a number in decimal digits.
-pub fn append_number(number: u32, out: &mut Vec<u8>) -> Result<(), AllocError>
-    ensures { OnOk result (out.new.items ≡ out.old.items ++ decimal number) }
-{
-    append(Buffer::new().format(number), out)
-}
 
 /// Appends the lowest digit of a number in base 94.
 fn append_digit(number: usize, out: &mut Vec<u8>) -> Result<(), AllocError>

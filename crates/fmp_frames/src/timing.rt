@@ -18,7 +18,7 @@ pub struct Timing<'a> {
 }
 
 /// All times but the first.
-fn behind_first(times: &[u64]) -> &[u64]
+fn after_first(times: &[u64]) -> &[u64]
     ensures { result.now ≡ drop 1 times.now }
 {
     match times {
@@ -34,7 +34,7 @@ impl<'a> Timing<'a> {
         ensures { IfOk result (λ made. spec.timed_of made ≡ spec.first_timed times.now (table_of setup.now)) }
     {
         Ok(Timing {
-            times: behind_first(times),
+            times: after_first(times),
             responses: Responses::new(alloc, setup.states.len())?,
         })
     }

@@ -6,7 +6,7 @@ use Rattle.fmp_instructions.specs.Machine.{code_meaning}
 use Rattle.fmp_frames.specs.declared.answers.SiteAnswer.{SiteAnswer}
 use Rattle.fmp_frames.specs.Answers.{answers_in}
 use Rattle.fmp_expect.specs.declared.expectation.Expected.{Expected}
-use Rattle.fmp_frames.specs.declared.placed_lines.LineForm.{LineForm}
+use Rattle.fmp_frames.specs.declared.positioned_lines.LineForm.{LineForm}
 use Rattle.fmp_replay.specs.Replays.{kernel_after}
 use Rattle.fmp_trials.specs.declared.choices.RunPlan.{RunPlan}
 use Rattle.fmp_trials.specs.Choices.{choices_of}

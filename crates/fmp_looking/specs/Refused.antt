@@ -9,7 +9,7 @@ use Rattle.fmp_frames.specs.declared.call_positions.CallPosition.{CallPosition}
 use Rattle.fmp_frames.specs.Answers.{answers_in}
 use Rattle.fmp_frames.specs.CallPositions.{AreCallsOf}
 use Rattle.fmp_frames.specs.Made.{site_position}
-use Rattle.fmp_frames.specs.declared.placed_lines.LineForm.{LineForm}
+use Rattle.fmp_frames.specs.declared.positioned_lines.LineForm.{LineForm}
 use Rattle.fmp_frames.specs.RefusalLines.{refused_line}
 use Rattle.fmp_frames.specs.Refusals.{Refused, refused_calls}
 use Rattle.fmp_replay.specs.Replays.{kernel_after}

@@ -9,8 +9,8 @@ use Rattle.fmp_image_bytes.specs.Images.{ImageTables}
 use Rattle.fmp_instructions.specs.Machine.{code_meaning}
 use Rattle.fmp_frames.specs.declared.answers.SiteAnswer.{SiteAnswer}
 use Rattle.fmp_frames.specs.declared.call_positions.CallPosition.{CallPosition}
-use Rattle.fmp_frames.specs.declared.placed_lines.LineForm.{LineForm}
-use Rattle.fmp_frames.specs.declared.placed_lines.LineForm.TheVariants as form
+use Rattle.fmp_frames.specs.declared.positioned_lines.LineForm.{LineForm}
+use Rattle.fmp_frames.specs.declared.positioned_lines.LineForm.TheVariants as form
 use Rattle.fmp_frames.specs.Answers.{answers_in, with_answer}
 use Rattle.fmp_frames.specs.CallPositions.{AreCallsOf}
 use Rattle.fmp_frames.specs.Refusals.{refused_calls}

@@ -18,9 +18,9 @@ use Rattle.fmp_looking.specs.declared.tracing.Tracer.{Tracer}
 use Rattle.fmp_image_bytes.specs.Images.{ImageTables}
 use Rattle.fmp_instructions.specs.Machine.{code_meaning}
 use Rattle.fmp_frames.specs.declared.call_positions.CallPosition.{CallPosition}
-use Rattle.fmp_frames.specs.declared.placed_lines.LineForm.{LineForm}
-use Rattle.fmp_frames.specs.declared.placed_lines.LineForm.TheVariants as written
-use Rattle.fmp_frames.specs.PlacedLines.{placed}
+use Rattle.fmp_frames.specs.declared.positioned_lines.LineForm.{LineForm}
+use Rattle.fmp_frames.specs.declared.positioned_lines.LineForm.TheVariants as written
+use Rattle.fmp_frames.specs.PositionedLines.{positioned}
 use Rattle.fmp_frames.specs.Made.{positions_made}
 use Rattle.fmp_frames.specs.CallPositions.{AreCallsOf}
 use Rattle.fmp_replay.specs.Replays.{kernel_after}
@@ -32,7 +32,7 @@ line_form form.Json = written.Record
 
 -- the lines of event k, as they are printed, with where its call stands
 abbrev pub lines_text : Form → SystemTables → ℕ → Option CallPosition → List Line → List ℕ
-lines_text f sys k position ls = placed (line_form f) sys k position ls
+lines_text f sys k position ls = positioned (line_form f) sys k position ls
 
 -- the states of the tasks, as they are printed
 abbrev pub states_text : Form → SystemTables → List TaskState → List TaskBlock → List ℕ

@@ -14,7 +14,9 @@ use crate::run_positions::position_of;
 use crate::states::states_in;
 use crate::why::why_of;
 use fmp_base::{System, TaskBlock, TaskState};
-use fmp_frames::{CallPosition, Frame, LineForm, Viewer, append_placed, last_frame, show_all};
+use fmp_frames::{
+    CallPosition, EventLines, Frame, LineForm, Viewer, append_positioned, last_frame, show_all,
+};
 use fmp_kernel::{Body, Coming, Kernel};
 use fmp_warnings::Form;
 use std::alloc::{AllocError, Global};
@@ -68,7 +70,12 @@ impl<'a> Tracer<'a> {
     {
         let mut out = Vec::new(alloc);
         let form = line_form(printing.form);
-        append_placed(alloc, form, printing.sys, 0, None, &setup.lines, &mut out)?;
+        let told = EventLines {
+            number: 0,
+            position: None,
+            lines: &setup.lines,
+        };
+        append_positioned(alloc, form, printing.sys, told, &mut out)?;
         Ok(Tracer {
             printing,
             number: 0,
@@ -101,13 +108,16 @@ impl Viewer for Tracer<'_> {
     /// One event more.
     fn show(&mut self, alloc: Global, frame: &Frame) -> Result<(), AllocError> {
         self.number = number_after(self.number, frame.kept);
-        append_placed(
+        let told = EventLines {
+            number: self.number,
+            position: position_of(self.printing.positions, self.number),
+            lines: &frame.lines,
+        };
+        append_positioned(
             alloc,
             line_form(self.printing.form),
             self.printing.sys,
-            self.number,
-            position_of(self.printing.positions, self.number),
-            &frame.lines,
+            told,
             &mut self.out,
         )?;
         self.states = Vec::from_slice(alloc, &frame.states)?;

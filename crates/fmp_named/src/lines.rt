@@ -11,8 +11,9 @@ ghost use Rattle.fmp_named.specs.Lines.{named_lines};
 use crate::names::{
     append_caller, append_cyclic, append_handler, append_running, append_task, object_name,
 };
-use crate::text::{append, append_number, append_numbered, append_processor, append_signed};
+use crate::text::{append_numbered, append_processor};
 use fmp_base::{Call, Caller, Handler, Line, Name, Parameter, Reply, System};
+use fmp_json::{append, append_number, append_signed};
 use std::alloc::AllocError;
 
 /// Appends a name, or else a number.
@@ -25,7 +26,7 @@ fn append_name_or_number(
 {
     match name {
         Some(name) => append(name.as_bytes(), out),
-        None => append_signed(number, out),
+        None => append_signed(i64::from(number), out),
     }
 }
 
@@ -41,7 +42,7 @@ fn append_argument(
 {
     match parameter.object_kind() {
         Some(kind) => append_name_or_number(object_name(sys, kind, number), number, out),
-        None => append_signed(number, out),
+        None => append_signed(i64::from(number), out),
     }
 }
 
@@ -54,10 +55,10 @@ pub fn is_out(parameter: Parameter) -> bool
 
 /// Appends the comma that stands between an argument and those after it, if there are any.
 #[tactic(auto, unfolding(crate::specs::Lines::comma))]
-fn append_comma(behind: &[i32], out: &mut Vec<u8>) -> Result<(), AllocError>
-    ensures { OnOk result (out.new.items ≡ out.old.items ++ spec.comma behind.now) }
+fn append_comma(rest: &[i32], out: &mut Vec<u8>) -> Result<(), AllocError>
+    ensures { OnOk result (out.new.items ≡ out.old.items ++ spec.comma rest.now) }
 {
-    match behind {
+    match rest {
         [] => Ok(()),
         _ => append(b",", out),
     }
@@ -76,9 +77,9 @@ fn append_first(
 {
     match numbers {
         [] => Ok(()),
-        [number, behind @ ..] => {
+        [number, rest @ ..] => {
             append_argument(sys, parameter, *number, out)?;
-            append_comma(behind, out)
+            append_comma(rest, out)
         }
     }
 }
@@ -90,7 +91,7 @@ fn behind_first(numbers: &[i32]) -> &[i32]
 {
     match numbers {
         [] => numbers,
-        [_, behind @ ..] => behind,
+        [_, rest @ ..] => rest,
     }
 }
 
@@ -133,7 +134,7 @@ fn append_value(value: Option<i32>, out: &mut Vec<u8>) -> Result<(), AllocError>
     match value {
         Some(value) => {
             append(b" ", out)?;
-            append_signed(value, out)
+            append_signed(i64::from(value), out)
         }
         None => Ok(()),
     }
@@ -319,7 +320,7 @@ pub fn append_lines(
     ensures { OnOk result (out.new.items ≡ out.old.items ++ named_lines (tables_of sys.now) number lines.now) }
 {
     for line in lines {
-        append_number(number, out)?;
+        append_number(u64::from(number), out)?;
         append_body(sys, *line, out)?;
         append(b"\n", out)?;
     }

@@ -5,9 +5,9 @@ ghost use Rattle.fmp_base.specs.Systems.{cyclic_config, tables_of};
 ghost use Rattle.fmp_base.specs.Texts.{caller_name, handler_name as handler_text, run_text, task_name};
 ghost use Rattle.fmp_named.specs.Names as spec;
 
-use crate::text::{append, append_number};
 use fmp_base::arguments::numbered;
 use fmp_base::{Caller, Handler, Name, ObjectKind, System};
+use fmp_json::{append, append_number};
 use std::alloc::AllocError;
 
 /// The greatest number of objects of a kind.
@@ -82,7 +82,7 @@ pub fn append_handler(sys: &System, handler: Handler, out: &mut Vec<u8>) -> Resu
     match handler {
         Handler::Interrupt(place) => {
             append(b"#", out)?;
-            append_number(u32::from(place) + 1, out)
+            append_number(u64::from(place) + 1, out)
         }
         Handler::Cyclic(cyclic) => append_cyclic(sys, cyclic, out),
     }

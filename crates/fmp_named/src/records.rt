@@ -10,9 +10,8 @@ ghost use Rattle.fmp_named.specs.Records as spec;
 use crate::lines::is_out;
 use crate::names::{append_caller, append_task, object_name};
 use crate::states::append_wait;
-use crate::text::append;
 use fmp_base::{Call, Caller, Handler, Line, Name, Parameter, Reply, System, TaskBlock, TaskState};
-use fmp_json::{begin, begin_list, end_list, finish, number_member, text_member};
+use fmp_json::{append, begin, begin_list, end_list, finish, number_member, text_member};
 use json::Writer;
 use std::alloc::{AllocError, Global};
 

@@ -5,8 +5,9 @@ ghost use Rattle.fmp_base.specs.Systems.{tables_of};
 ghost use Rattle.fmp_named.specs.States as spec;
 
 use crate::names::{append_task, kind_word, name_at};
-use crate::text::{append, append_number, append_numbered, append_processor};
+use crate::text::{append_numbered, append_processor};
 use fmp_base::{FlagMode, ObjectKind, Phase, System, TaskBlock, TaskState, WaitCause};
+use fmp_json::{append, append_number};
 use std::alloc::AllocError;
 
 /// Appends an object by its kind and its name.
@@ -63,7 +64,7 @@ fn append_bits(
         ≡ out.old.items ++ spec.cause_text (tables_of sys.now) (cause.Flag flag pattern mode)) }
 {
     append(mode_word(mode).as_bytes(), out)?;
-    append_number(u32::from(pattern), out)?;
+    append_number(u64::from(pattern), out)?;
     append_about(sys, b" of ", ObjectKind::Flag, flag, out)
 }
 
@@ -163,7 +164,7 @@ pub fn append_state(
     append(b" ", out)?;
     append(state.word.name().as_bytes(), out)?;
     append_processor(state.processor, out)?;
-    append_number(u32::from(state.priority), out)?;
+    append_number(u64::from(state.priority), out)?;
     append_waiting(sys, block, out)?;
     append(b"\n", out)
 }

@@ -8,9 +8,9 @@ use Rattle.std.proofs.lemmas.List.{length-append}
 use Rattle.std.proofs.lemmas.List.Sums.{prefix_len-le-length}
 use Rattle.std.specs.List.{prefix_len}
 use Rattle.fmp_base.specs.declared.events.Event.{Event}
-use Rattle.fmp_session.specs.Commands.{blank_of, by_word, command_of, event_of, number_of, once_or, rest_behind}
+use Rattle.fmp_session.specs.Commands.{blank_of, by_word, command_of, event_of, number_of, once_or, rest_after}
 use Rattle.fmp_session.specs.Commands.{rest_of}
-use Rattle.fmp_session.specs.Commands.{run_by, run_of, times_behind, word_before, word_of}
+use Rattle.fmp_session.specs.Commands.{run_by, run_of, times_after, word_before, word_of}
 use Rattle.fmp_session.specs.declared.command.Command.TheVariants as command
 use Rattle.fmp_session.specs.declared.interrupts.NamedInterrupt.{NamedInterrupt}
 
@@ -77,8 +77,8 @@ run_once processors text none =
     let word : word_of (text ++ 32 ∷ more) ≡ text =
     ap (λ (o : Option ℕ). word_before o (text ++ 32 ∷ more)) at ∙ take-append_seam text (32 ∷ more) in
     let rest : rest_of (text ++ 32 ∷ more) ≡ Some more =
-    ap (λ (o : Option ℕ). rest_behind o (text ++ 32 ∷ more)) at ∙ ap Some (drop_past text more) in
+    ap (λ (o : Option ℕ). rest_after o (text ++ 32 ∷ more)) at ∙ ap Some (drop_past text more) in
     let same : word_of text ≡ text = ap (λ (o : Option ℕ). word_before o text) none in
-    let alone : rest_of text ≡ None = ap (λ (o : Option ℕ). rest_behind o text) none in
-    ap₂ (λ (w : List ℕ) (r : Option (List ℕ)). run_by (number_of processors w) (times_behind r)) word rest
-    ∙ sym (ap₂ (λ (w : List ℕ) (r : Option (List ℕ)). run_by (number_of processors w) (times_behind r)) same alone)
+    let alone : rest_of text ≡ None = ap (λ (o : Option ℕ). rest_after o text) none in
+    ap₂ (λ (w : List ℕ) (r : Option (List ℕ)). run_by (number_of processors w) (times_after r)) word rest
+    ∙ sym (ap₂ (λ (w : List ℕ) (r : Option (List ℕ)). run_by (number_of processors w) (times_after r)) same alone)

@@ -24,7 +24,7 @@ only (Err f) = None
 abbrev pub event_of : (processors : ℕ) → List ℕ → Option Event
 event_of processors line = only (steps_of processors line)
 
--- the place of the first blank
+-- the position of the first blank
 abbrev pub blank_of : List ℕ → Option ℕ
 blank_of line = position (λ b. nat_eq b 32) line
 
@@ -36,13 +36,13 @@ word_before (Some k) line = take k line
 abbrev pub word_of : List ℕ → List ℕ
 word_of line = word_before (blank_of line) line
 
-abbrev pub rest_behind : Option ℕ → List ℕ → Option (List ℕ)
-rest_behind None line = None
-rest_behind (Some k) line = Some (drop (k + 1) line)
+abbrev pub rest_after : Option ℕ → List ℕ → Option (List ℕ)
+rest_after None line = None
+rest_after (Some k) line = Some (drop (k + 1) line)
 
 -- what stands after the first blank of a text, if there is one
 abbrev pub rest_of : List ℕ → Option (List ℕ)
-rest_of line = rest_behind (blank_of line) line
+rest_of line = rest_after (blank_of line) line
 
 abbrev pub or_nothing : Option (List ℕ) → List ℕ
 or_nothing None = []
@@ -94,14 +94,14 @@ abbrev pub interrupt_of : List NamedInterrupt → (word : List ℕ) → Option �
 interrupt_of is word = option_or (number_of 32 word) (number_named word is)
 
 -- how many, by what stands after a word: one, or the number that it spells
-abbrev pub count_behind : Option (List ℕ) → Option ℕ
-count_behind None = Some 1
-count_behind (Some text) = count_of text
+abbrev pub count_after : Option (List ℕ) → Option ℕ
+count_after None = Some 1
+count_after (Some text) = count_of text
 
 -- how often, by what stands after an event: once, or K times where it is `xK`
-abbrev pub times_behind : Option (List ℕ) → Option ℕ
-times_behind None = Some 1
-times_behind (Some text) = option_and_then count_of (behind (codes "x") text)
+abbrev pub times_after : Option (List ℕ) → Option ℕ
+times_after None = Some 1
+times_after (Some text) = option_and_then count_of (behind (codes "x") text)
 
 -- `back` with how many
 abbrev pub back_by : Option ℕ → Result Command LineMistake
@@ -124,7 +124,7 @@ run_by (Some p) times = taken (event.Run p) times
 
 -- `run` with what stands after it: a processor, and how often it runs
 abbrev pub run_of : (processors : ℕ) → (text : List ℕ) → Result Command LineMistake
-run_of processors text = run_by (number_of processors (word_of text)) (times_behind (rest_of text))
+run_of processors text = run_by (number_of processors (word_of text)) (times_after (rest_of text))
 
 abbrev pub int_by : Option ℕ → Option ℕ → Result Command LineMistake
 int_by None times = Err mistake.Interrupt
@@ -132,7 +132,7 @@ int_by (Some i) times = taken (event.Int i) times
 
 -- `int` with what stands after it: an interrupt, and how often it is raised
 abbrev pub int_of : List NamedInterrupt → (text : List ℕ) → Result Command LineMistake
-int_of is text = int_by (interrupt_of is (word_of text)) (times_behind (rest_of text))
+int_of is text = int_by (interrupt_of is (word_of text)) (times_after (rest_of text))
 
 -- a command of one word, with what stands after it
 abbrev pub alone : Command → Option (List ℕ) → Result Command LineMistake
@@ -160,9 +160,9 @@ abbrev pub by_word : (processors : ℕ) → List NamedInterrupt → (word : List
 by_word processors is word rest =
     if bytes_eq word [] then alone command.Skip rest
     else if bytes_eq word (codes "run") then run_of processors (or_nothing rest)
-    else if bytes_eq word (codes "tick") then tick_by (count_behind rest)
+    else if bytes_eq word (codes "tick") then tick_by (count_after rest)
     else if bytes_eq word (codes "int") then int_of is (or_nothing rest)
-    else if bytes_eq word (codes "back") then back_by (count_behind rest)
+    else if bytes_eq word (codes "back") then back_by (count_after rest)
     else if bytes_eq word (codes "why") then alone command.Why rest
     else if bytes_eq word (codes "state") then state_of rest
     else if bytes_eq word (codes "load") then named command.Load (or_nothing rest)

@@ -7,8 +7,8 @@ use Rattle.fmp_instructions.specs.Instructions.{BodyTables}
 use Rattle.fmp_kernel.specs.KernelViews.{KernelView}
 use Rattle.fmp_named.specs.Lines.{named_lines}
 use Rattle.fmp_frames.specs.declared.call_positions.CallPosition.{CallPosition}
-use Rattle.fmp_frames.specs.declared.placed_lines.LineForm.TheVariants as form
-use Rattle.fmp_frames.specs.PlacedLines.{placed}
+use Rattle.fmp_frames.specs.declared.positioned_lines.LineForm.TheVariants as form
+use Rattle.fmp_frames.specs.PositionedLines.{positioned}
 use Rattle.fmp_replay.specs.Replays.{IsLegal, kernel_after, reaction}
 use Rattle.fmp_session.specs.declared.session.Session.{Session}
 use Rattle.fmp_session.specs.declared.session.TakenEvent.{TakenEvent}
@@ -46,4 +46,4 @@ lines_now k = named_lines k.system k.done k.lines
 
 -- the same as objects of JSON, with where the call of the event stands if that is known
 abbrev pub records_now : Option CallPosition → KernelView (List BodyTables) MachineContext → List ℕ
-records_now position k = placed form.Record k.system k.done position k.lines
+records_now position k = positioned form.Record k.system k.done position k.lines

@@ -1,15 +1,15 @@
 -- What is told of events that leave no lines.
-use Rattle.std.specs.Prelude.{ℕ, ◌-◌, List, [], ◌∷◌, ◌++◌, Bool, true, false, nat_eq, codes, decimal, get_or}
-use Rattle.std.specs.List.{list_any}
+use Rattle.std.specs.Prelude.{ℕ, ◌-◌, List, [], ◌∷◌, ◌++◌, Bool, true, false, codes, decimal, get_or}
 use Rattle.fmp_base.specs.declared.events.Event.{Event}
 use Rattle.fmp_base.specs.declared.events.Event.TheVariants.{Run, Tick, Int}
 use Rattle.fmp_base.specs.Systems.{SystemTables}
 use Rattle.fmp_drive.specs.declared.next.NextRun.{NextRun}
 use Rattle.fmp_drive.specs.declared.next.NextRun.TheVariants as next
+use Rattle.fmp_frames.specs.Handlers.{is_handled}
 
 -- words, a number, and words after it
-abbrev pub around : (front : List ℕ) → ℕ → (behind : List ℕ) → List ℕ
-around front n behind = front ++ (decimal n ++ behind)
+abbrev pub around : (front : List ℕ) → ℕ → (after : List ℕ) → List ℕ
+around front n after = front ++ (decimal n ++ after)
 
 -- why the run of processor n does nothing, where its next run ends so: a call does nothing only where it asks for a
 -- spin lock that is held
@@ -20,10 +20,6 @@ standing n (next.Calls call) =
 standing n next.OverBound = around (codes "nothing: processor ") n (codes " stands\n")
 standing n next.Ends = around (codes "nothing: processor ") n (codes " stands\n")
 
--- whether an interrupt has a handler
-abbrev pub has_handler : SystemTables → ℕ → Bool
-has_handler sys n = list_any (λ i. nat_eq i.number n) sys.interrupts
-
 abbrev pub handled : Bool → ℕ → List ℕ
 handled true n = around (codes "nothing: the handler of interrupt ") n (codes " is pending\n")
 handled false n = around (codes "nothing: interrupt ") n (codes " has no handler\n")
@@ -31,7 +27,7 @@ handled false n = around (codes "nothing: interrupt ") n (codes " has no handler
 -- why an event does nothing, where the next runs of the processors end so
 abbrev pub nothing : SystemTables → Event → List NextRun → List ℕ
 nothing sys (Run n) runs = standing n (get_or runs (n - 1) next.NoActor)
-nothing sys (Int n) runs = handled (has_handler sys n) n
+nothing sys (Int n) runs = handled (is_handled sys n) n
 nothing sys Tick runs = []
 
 -- what is told of an event that kept a place

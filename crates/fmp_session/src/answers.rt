@@ -2,8 +2,7 @@
 ghost use Rattle.std.specs.Prelude.{◌≡◌, ◌++◌, IfOk, OnOk, map};
 ghost use Rattle.fmp_session.specs.Answers as spec;
 
-use fmp_json::{begin, finish, number_member, text_member};
-use itoa::Buffer;
+use fmp_json::{append, append_number, begin, finish, number_member, text_member};
 use json::Writer;
 use std::alloc::{AllocError, Global};
 
@@ -86,11 +85,11 @@ pub fn answer_line(alloc: Global, events: usize, records: Vec<u8>) -> Result<Vec
 {
     let records = joined(records);
     let mut line = Vec::new(alloc);
-    line.extend_from_slice(b"{\"events\":")?;
-    line.extend_from_slice(Buffer::new().format(events as u64).as_bytes())?;
-    line.extend_from_slice(b",\"records\":[")?;
-    line.extend_from_slice(&records)?;
-    line.extend_from_slice(b"]}\n")?;
+    append(b"{\"events\":", &mut line)?;
+    append_number(events as u64, &mut line)?;
+    append(b",\"records\":[", &mut line)?;
+    append(&records, &mut line)?;
+    append(b"]}\n", &mut line)?;
     Ok(line)
 }
 

@@ -80,7 +80,7 @@ pub fn word_of(line: &[u8]) -> &[u8]
     ensures { result.now ≡ spec.word_of line.now }
 {
     match blank_in(line) {
-        Some(place) => &line[..place],
+        Some(blank) => &line[..blank],
         None => line,
     }
 }
@@ -89,8 +89,8 @@ pub fn word_of(line: &[u8]) -> &[u8]
 fn rest_of(line: &[u8]) -> Option<&[u8]>
     ensures { MatchOption result (spec.rest_of line.now ≡ None) (λ rest. spec.rest_of line.now ≡ Some rest.now) }
 {
-    let place = blank_in(line)?;
-    Some(&line[place + 1..])
+    let blank = blank_in(line)?;
+    Some(&line[blank + 1..])
 }
 
 /// What stands after the first word of a line; empty if nothing does.
@@ -104,8 +104,8 @@ pub fn argument_of(line: &[u8]) -> &[u8]
 }
 
 /// How many a line asks for after its first word.
-fn count_behind(line: &[u8]) -> Option<u32>
-    ensures { result ≡ spec.count_behind (spec.rest_of line.now) }
+fn count_after(line: &[u8]) -> Option<u32>
+    ensures { result ≡ spec.count_after (spec.rest_of line.now) }
 {
     match rest_of(line) {
         Some(text) => count_in(text),
@@ -114,8 +114,8 @@ fn count_behind(line: &[u8]) -> Option<u32>
 }
 
 /// How often a text asks for its first word.
-fn times_behind(text: &[u8]) -> Option<u32>
-    ensures { result ≡ spec.times_behind (spec.rest_of text.now) }
+fn times_after(text: &[u8]) -> Option<u32>
+    ensures { result ≡ spec.times_after (spec.rest_of text.now) }
 {
     match rest_of(text) {
         Some([b'x', digits @ ..]) => count_in(digits),
@@ -126,9 +126,9 @@ fn times_behind(text: &[u8]) -> Option<u32>
 
 /// The command that takes back as many events as a line says, or one.
 fn back_of(line: &[u8]) -> Result<Command, LineMistake>
-    ensures { result ≡ spec.back_by (spec.count_behind (spec.rest_of line.now)) }
+    ensures { result ≡ spec.back_by (spec.count_after (spec.rest_of line.now)) }
 {
-    match count_behind(line) {
+    match count_after(line) {
         Some(count) => Ok(Command::Back(count)),
         None => Err(LineMistake::Count),
     }
@@ -136,9 +136,9 @@ fn back_of(line: &[u8]) -> Result<Command, LineMistake>
 
 /// The command of as many ticks as a line says, or of one.
 fn tick_of(line: &[u8]) -> Result<Command, LineMistake>
-    ensures { result ≡ spec.tick_by (spec.count_behind (spec.rest_of line.now)) }
+    ensures { result ≡ spec.tick_by (spec.count_after (spec.rest_of line.now)) }
 {
-    match count_behind(line) {
+    match count_after(line) {
         Some(count) => Ok(Command::Take(Event::Tick, count)),
         None => Err(LineMistake::Count),
     }
@@ -146,9 +146,9 @@ fn tick_of(line: &[u8]) -> Result<Command, LineMistake>
 
 /// The command that takes an event as often as a text says after its first word.
 fn taken(event: Event, text: &[u8]) -> Result<Command, LineMistake>
-    ensures { result ≡ spec.taken event (spec.times_behind (spec.rest_of text.now)) }
+    ensures { result ≡ spec.taken event (spec.times_after (spec.rest_of text.now)) }
 {
-    match times_behind(text) {
+    match times_after(text) {
         Some(times) => Ok(Command::Take(event, times)),
         None => Err(LineMistake::Times),
     }

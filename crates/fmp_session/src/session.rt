@@ -12,7 +12,8 @@ use fmp_base::{Effect, Event};
 use fmp_code::Vm;
 use fmp_drive::{NextRun, next_runs};
 use fmp_frames::{
-    CallPosition, CallPositions, CodePositions, LineForm, append_placed, event_position,
+    CallPosition, CallPositions, CodePositions, EventLines, LineForm, append_positioned,
+    event_position,
 };
 use fmp_image_bytes::Image;
 use fmp_kernel::Kernel;
@@ -149,7 +150,7 @@ impl<'a> Session<'a> {
     }
 
     /// Where the call stands that an event would make now, if it makes one. The calls of the bodies stand at these
-    /// places of their text.
+    /// positions of their text.
     pub fn position(&self, positions: &CallPositions, e: Event) -> Option<CallPosition>
         requires { IsSession self.now }
         ensures { result ≡ position_of code_meaning self.now.image.now.code positions.now self.now.kernel e }
@@ -186,15 +187,12 @@ impl<'a> Session<'a> {
         requires { IsSession self.now }
         ensures { OnOk result (out.new.items ≡ out.old.items ++ records_now position self.now.kernel) }
     {
-        append_placed(
-            alloc,
-            LineForm::Record,
-            self.image.system(),
-            self.kernel.done(),
+        let told = EventLines {
+            number: self.kernel.done(),
             position,
-            self.kernel.lines(),
-            out,
-        )
+            lines: self.kernel.lines(),
+        };
+        append_positioned(alloc, LineForm::Record, self.image.system(), told, out)
     }
 
     /// The steps text of the events: with it and the same bound `fmp sim` repeats the session. `AllocError` if memory

@@ -5,21 +5,22 @@ ghost use Rattle.fmp_session.specs.Tellings as spec;
 
 use fmp_base::{Event, System};
 use fmp_drive::NextRun;
-use itoa::Buffer;
+use fmp_frames::is_handled;
+use fmp_json::{append, append_number};
 use std::alloc::AllocError;
 
 /// Appends words, a number, and words after it.
 fn append_around(
     front: &[u8],
     number: u8,
-    behind: &[u8],
+    after: &[u8],
     out: &mut Vec<u8>,
 ) -> Result<(), AllocError>
-    ensures { OnOk result (out.new.items ≡ out.old.items ++ spec.around front.now number behind.now) }
+    ensures { OnOk result (out.new.items ≡ out.old.items ++ spec.around front.now number after.now) }
 {
-    out.extend_from_slice(front)?;
-    out.extend_from_slice(Buffer::new().format(number).as_bytes())?;
-    out.extend_from_slice(behind)
+    append(front, out)?;
+    append_number(u64::from(number), out)?;
+    append(after, out)
 }
 
 /// Appends why the run of the processor of this number does nothing, given how its next run ends. A call does nothing
@@ -41,13 +42,6 @@ fn append_standing(number: u8, next: NextRun, out: &mut Vec<u8>) -> Result<(), A
     }
 }
 
-/// Whether an interrupt has a handler.
-fn has_handler(sys: &System, number: u8) -> bool
-    ensures { result ≡ spec.has_handler (tables_of sys.now) number }
-{
-    sys.interrupts.iter().any(|config| config.number == number)
-}
-
 /// Appends why an event does nothing, given how the next runs of the processors end. `AllocError` if memory runs out.
 pub fn append_nothing(
     sys: &System,
@@ -63,7 +57,7 @@ pub fn append_nothing(
             let run = next.get(place).copied().unwrap_or(NextRun::NoActor);
             append_standing(number, run, out)
         }
-        Event::Int(number) if has_handler(sys, number) => append_around(
+        Event::Int(number) if is_handled(sys, number) => append_around(
             b"nothing: the handler of interrupt ",
             number,
             b" is pending\n",

@@ -44,13 +44,13 @@ fn name_member(alloc: Global, writer: &mut Writer, name: &[u8]) -> Result<(), Al
 pub fn append_slice(
     alloc: Global,
     lane: Lane,
-    from: u64,
-    to: u64,
+    span: (u64, u64),
     name: &[u8],
     out: &mut Vec<u8>,
 ) -> Result<(), AllocError>
-    ensures { OnOk result (out.new.items ≡ out.old.items ++ spec.slice_text lane from to name.now) }
+    ensures { OnOk result (out.new.items ≡ out.old.items ++ spec.slice_text lane span.0 span.1 name.now) }
 {
+    let (from, to) = span;
     let mut writer = begin_entry(alloc, "X", lane)?;
     number_member(&mut writer, "ts", from)?;
     number_member(&mut writer, "dur", to.saturating_sub(from))?;
@@ -75,42 +75,50 @@ pub fn append_instant(
     append_object(writer, out)
 }
 
-/// Appends where the arrow of this number leaves a track.
+/// An end of an arrow.
+#[derive(Clone, Copy)]
+pub struct FlowPoint<'a> {
+    /// The track that the arrow leaves or reaches.
+    pub lane: Lane,
+    pub time: u64,
+    /// The number of the arrow.
+    pub number: u64,
+    /// What the arrow says.
+    pub word: &'a str,
+}
+
+/// Appends where an arrow leaves a track.
 pub fn append_flow_start(
     alloc: Global,
-    lane: Lane,
-    time: u64,
-    number: u64,
-    name: &str,
+    point: FlowPoint<'_>,
     out: &mut Vec<u8>,
 ) -> Result<(), AllocError>
-    ensures { OnOk result (out.new.items ≡ out.old.items ++ spec.flow_start_text lane time number name.now) }
+    ensures { OnOk result (out.new.items ≡ out.old.items
+        ++ spec.flow_start_text point.entry.lane point.entry.time point.entry.number point.entry.word.now) }
 {
-    let mut writer = begin_entry(alloc, "s", lane)?;
-    number_member(&mut writer, "ts", time)?;
-    number_member(&mut writer, "id", number)?;
+    let mut writer = begin_entry(alloc, "s", point.lane)?;
+    number_member(&mut writer, "ts", point.time)?;
+    number_member(&mut writer, "id", point.number)?;
     text_member(&mut writer, "cat", "flow")?;
-    text_member(&mut writer, "name", name)?;
+    text_member(&mut writer, "name", point.word)?;
     append_object(writer, out)
 }
 
-/// Appends where the arrow of this number reaches a track.
+/// Appends where an arrow reaches a track.
 pub fn append_flow_end(
     alloc: Global,
-    lane: Lane,
-    time: u64,
-    number: u64,
-    name: &str,
+    point: FlowPoint<'_>,
     out: &mut Vec<u8>,
 ) -> Result<(), AllocError>
-    ensures { OnOk result (out.new.items ≡ out.old.items ++ spec.flow_end_text lane time number name.now) }
+    ensures { OnOk result (out.new.items ≡ out.old.items
+        ++ spec.flow_end_text point.entry.lane point.entry.time point.entry.number point.entry.word.now) }
 {
-    let mut writer = begin_entry(alloc, "f", lane)?;
+    let mut writer = begin_entry(alloc, "f", point.lane)?;
     text_member(&mut writer, "bp", "e")?;
-    number_member(&mut writer, "ts", time)?;
-    number_member(&mut writer, "id", number)?;
+    number_member(&mut writer, "ts", point.time)?;
+    number_member(&mut writer, "id", point.number)?;
     text_member(&mut writer, "cat", "flow")?;
-    text_member(&mut writer, "name", name)?;
+    text_member(&mut writer, "name", point.word)?;
     append_object(writer, out)
 }
 

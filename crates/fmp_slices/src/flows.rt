@@ -4,7 +4,7 @@ ghost use Rattle.fmp_base.specs.Systems.{tables_of};
 ghost use Rattle.fmp_slices.specs.Traces as spec;
 
 use crate::clock::Clock;
-use crate::entries::{append_flow_end, append_flow_start};
+use crate::entries::{FlowPoint, append_flow_end, append_flow_start};
 use crate::lanes::{lane_of, task_lane};
 use fmp_base::System;
 use fmp_timeline::{ActorLink, Bond};
@@ -46,16 +46,19 @@ fn append_link(
     let Some(lane) = lane_of(sys, link.from) else {
         return Ok(());
     };
-    let word = bond_word(link.bond);
-    append_flow_start(alloc, lane, leaves_at(clock, link.event), number, word, out)?;
-    append_flow_end(
-        alloc,
-        task_lane(link.task),
-        clock.at(link.event),
+    let start = FlowPoint {
+        lane,
+        time: leaves_at(clock, link.event),
         number,
-        word,
-        out,
-    )
+        word: bond_word(link.bond),
+    };
+    let end = FlowPoint {
+        lane: task_lane(link.task),
+        time: clock.at(link.event),
+        ..start
+    };
+    append_flow_start(alloc, start, out)?;
+    append_flow_end(alloc, end, out)
 }
 
 /// Appends all arrows, numbered from 1.

@@ -6,17 +6,10 @@ ghost use Rattle.fmp_slices.specs.Labels as spec;
 use fmp_base::{
     Caller, Entry, Handler, InterruptConfig, Name, Phase, StateWord, System, TaskBlock,
 };
+use fmp_json::{append, append_number};
 use fmp_named::{append_caller, append_wait};
 use fmp_timeline::TaskShown;
-use itoa::Buffer;
 use std::alloc::AllocError;
-
-/// Appends bytes.
-pub fn append(text: &[u8], out: &mut Vec<u8>) -> Result<(), AllocError>
-    ensures { OnOk result (out.new.items ≡ out.old.items ++ text.now) }
-{
-    out.extend_from_slice(text)
-}
 
 /// The name of the body of an entry: its own, or that among the names of the bodies, in order of number.
 pub fn entry_name(bodies: &[Name], entry: Entry) -> Option<Name>
@@ -73,7 +66,7 @@ fn append_own_name(sys: &System, handler: Handler, out: &mut Vec<u8>) -> Result<
     match handler {
         Handler::Interrupt(place) => {
             append(b"interrupt ", out)?;
-            append(Buffer::new().format(u32::from(place) + 1).as_bytes(), out)
+            append_number(u64::from(place) + 1, out)
         }
         Handler::Cyclic(_) => append_caller(sys, Caller::Handler(handler), out),
     }

@@ -8,11 +8,10 @@ ghost use Rattle.fmp_slices.specs.StandardLog as spec;
 
 use crate::changes::{ChangeSubject, TrackChange, changes_of};
 use crate::clock::Clock;
-use crate::labels::append;
 use crate::resource_file::{append_context, append_handler, append_object};
 use fmp_base::{Caller, Handler, StateWord, System};
+use fmp_json::{append, append_number};
 use fmp_timeline::{Occupant, Run};
-use itoa::Buffer;
 use std::alloc::{AllocError, Global};
 
 /// A state as the visualizer has it.
@@ -34,7 +33,7 @@ fn append_front(time: u64, object: &[u8], out: &mut Vec<u8>) -> Result<(), Alloc
     ensures { OnOk result (out.new.items ≡ out.old.items ++ spec.front_text time object.now) }
 {
     append(b"[", out)?;
-    append(Buffer::new().format(time).as_bytes(), out)?;
+    append_number(time, out)?;
     append(b"]", out)?;
     append(object, out)?;
     append(b".", out)

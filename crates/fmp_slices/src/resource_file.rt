@@ -5,11 +5,12 @@ ghost use Rattle.fmp_json.specs.Members.{object_line};
 ghost use Rattle.fmp_slices.specs.Labels.{entry_name as spec_entry};
 ghost use Rattle.fmp_slices.specs.Resources as spec;
 
-use crate::labels::{append, entry_name};
+use crate::labels::entry_name;
 use fmp_base::{Caller, CyclicConfig, Entry, Handler, InterruptConfig, Name, System, TaskConfig};
-use fmp_json::{begin, begin_list, end_list, finish, number_member, text_member};
+use fmp_json::{
+    append, append_number, begin, begin_list, end_list, finish, number_member, text_member,
+};
 use fmp_named::append_caller;
-use itoa::Buffer;
 use json::Writer;
 use std::alloc::{AllocError, Global};
 
@@ -18,7 +19,7 @@ fn append_interrupt(number: u8, out: &mut Vec<u8>) -> Result<(), AllocError>
     ensures { OnOk result (out.new.items ≡ out.old.items ++ (codes "INT_" ++ decimal number)) }
 {
     append(b"INT_", out)?;
-    append(Buffer::new().format(u32::from(number)).as_bytes(), out)
+    append_number(u64::from(number), out)
 }
 
 /// Appends the name that a handler has as an object: of an interrupt `INT_` and its number.
@@ -46,10 +47,7 @@ pub fn append_context(processor: u8, out: &mut Vec<u8>) -> Result<(), AllocError
     ensures { OnOk result (out.new.items ≡ out.old.items ++ (codes "CurrentContext_PRC" ++ decimal (processor + 1))) }
 {
     append(b"CurrentContext_PRC", out)?;
-    append(
-        Buffer::new().format(u32::from(processor) + 1).as_bytes(),
-        out,
-    )
+    append_number(u64::from(processor) + 1, out)
 }
 
 /// Begins a resource of this name and type: its attributes follow, its number first.

@@ -8,11 +8,11 @@ ghost use Rattle.fmp_slices.specs.Traces as spec;
 use crate::clock::Clock;
 use crate::entries::{append_instant, append_slice, append_title};
 use crate::flows::append_links;
-use crate::labels::{append, append_actor, append_body, append_state};
+use crate::labels::{append_actor, append_body, append_state};
 use crate::lanes::{EVENTS, INTERRUPTS, Lane, PROCESSORS, TASKS, TICKS, processor_lane, task_lane};
 use fmp_base::{Handler, Name, System};
+use fmp_json::{append, append_number};
 use fmp_timeline::{Note, Occupant, Run, Stay, TaskShown, Track};
-use itoa::Buffer;
 use std::alloc::{AllocError, Global};
 
 /// The name of a group of tracks, after no comma.
@@ -34,10 +34,7 @@ fn numbered(alloc: Global, words: &[u8], place: u8) -> Result<Vec<u8>, AllocErro
     ensures { IfOk result (λ text. text.items ≡ words.now ++ decimal (place + 1)) }
 {
     let mut text = Vec::from_slice(alloc, words)?;
-    append(
-        Buffer::new().format(u32::from(place) + 1).as_bytes(),
-        &mut text,
-    )?;
+    append_number(u64::from(place) + 1, &mut text)?;
     Ok(text)
 }
 
@@ -135,8 +132,7 @@ impl SliceSource<'_> {
         };
         let mut name = Vec::new(self.alloc);
         append_actor(self.sys, self.bodies, actor, &mut name)?;
-        let (from, to) = self.span(stay);
-        append_slice(self.alloc, lane, from, to, &name, out)
+        append_slice(self.alloc, lane, self.span(stay), &name, out)
     }
 
     /// The slices of a processor, in order of time.
@@ -170,8 +166,7 @@ impl SliceSource<'_> {
     {
         let mut name = Vec::new(self.alloc);
         append_state(self.sys, self.bodies, stay.state, &mut name)?;
-        let (from, to) = self.span(stay);
-        append_slice(self.alloc, lane, from, to, &name, out)
+        append_slice(self.alloc, lane, self.span(stay), &name, out)
     }
 
     /// The slices of a task, in order of time.
@@ -227,7 +222,7 @@ impl SliceSource<'_> {
         ensures { OnOk result (out.new.items ≡ out.old.items ++ spec.tick_text true time clock) }
     {
         let mut name = Vec::from_slice(self.alloc, b"tick ")?;
-        append(Buffer::new().format(clock).as_bytes(), &mut name)?;
+        append_number(u64::from(clock), &mut name)?;
         append_instant(self.alloc, TICKS, time, &name, out)
     }
 

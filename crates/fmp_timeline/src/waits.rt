@@ -111,7 +111,7 @@ impl Waits {
         (found.event == event).then_some(found.told)
     }
 
-    /// What is told of a wait of a task that lasts so long, if it is one.
+    /// What is told of a wait of a task that lasts this long, if it is one.
     pub fn told(&self, task: u8, stay: &Stay<TaskShown>) -> Option<ToldWait> {
         let cause = stay.state.wait?;
         match stay.to {

@@ -34,7 +34,7 @@ leads-end bs goal m s at h = ap (λ (n : ℕ). leads_to bs goal n at) (none m s 
   none : (m s : ℕ) → m ≤ s → m - s ≡ 0
   none m s h = omega (arith, h)
 
--- the first task on a cycle stands behind one that is on none
+-- the first task on a cycle stands after one that is on none
 pub cycle-on : (bs : List (Option ℕ)) (m t : ℕ) → t < m → is_on_cycle bs t ≡ false
     → cycle_from bs t (m - t) ≡ cycle_from bs (t + 1) (m - (t + 1))
 cycle-on bs m t h e =

@@ -13,8 +13,8 @@ use crate::quiet::{deadlock_text, is_quiet, left_text};
 use crate::verdicts::{SystemVerdict, verdict_of};
 use crate::waits::{deed_for, deed_words, object_of};
 use fmp_base::{Lock, ObjectKind, Phase, Processor, System, TaskBlock, WaitCause};
+use fmp_json::{append, append_number};
 use fmp_named::{append_caller, append_object, append_task, append_wait};
-use itoa::Buffer;
 use std::alloc::{AllocError, Global};
 
 /// A state, and what was told before it.
@@ -32,17 +32,11 @@ pub struct Scene<'a> {
     pub over: &'a [bool],
 }
 
-fn append(text: &[u8], out: &mut Vec<u8>) -> Result<(), AllocError>
-    ensures { OnOk result (out.new.items ≡ out.old.items ++ text.now) }
-{
-    out.extend_from_slice(text)
-}
-
 fn append_event(words: &[u8], event: u32, out: &mut Vec<u8>) -> Result<(), AllocError>
     ensures { OnOk result (out.new.items ≡ out.old.items ++ (words.now ++ decimal event)) }
 {
     append(words, out)?;
-    append(Buffer::new().format(event).as_bytes(), out)
+    append_number(u64::from(event), out)
 }
 
 /// Appends what was done to an object last, between words.
@@ -67,10 +61,11 @@ fn append_deed(
     }
 }
 
-/// Who took an object last, and at which event.
-fn taken_of(scene: &Scene<'_>, kind: ObjectKind, place: u8) -> Option<ObjectDeed>
-    ensures { result ≡ spec.taken_of (sight_of scene.now) kind place }
+/// Who took the object of a kind at a place last, and at which event.
+fn taken_of(scene: &Scene<'_>, object: (ObjectKind, u8)) -> Option<ObjectDeed>
+    ensures { result ≡ spec.taken_of (sight_of scene.now) object.0 object.1 }
 {
+    let (kind, place) = object;
     scene.history.trail(kind, place).taken
 }
 
@@ -80,14 +75,13 @@ fn append_taken(
     scene: &Scene<'_>,
     front: &[u8],
     back: &[u8],
-    kind: ObjectKind,
-    place: u8,
+    object: (ObjectKind, u8),
     out: &mut Vec<u8>,
 ) -> Result<(), AllocError>
     ensures { OnOk result (out.new.items
-        ≡ out.old.items ++ spec.taken_text (sight_of scene.now) front.now back.now kind place) }
+        ≡ out.old.items ++ spec.taken_text (sight_of scene.now) front.now back.now object.0 object.1) }
 {
-    append_deed(scene.sys, front, back, taken_of(scene, kind, place), out)
+    append_deed(scene.sys, front, back, taken_of(scene, object), out)
 }
 
 /// Appends who acted last on what a task waits for.
@@ -136,13 +130,13 @@ fn append_doing(
     scene: &Scene<'_>,
     task: usize,
     does: &[u8],
-    kind: ObjectKind,
-    place: u8,
+    object: (ObjectKind, u8),
     out: &mut Vec<u8>,
 ) -> Result<(), AllocError>
     ensures { OnOk result (out.new.items
-        ≡ out.old.items ++ spec.doing_text (sight_of scene.now) task does.now kind place) }
+        ≡ out.old.items ++ spec.doing_text (sight_of scene.now) task does.now object.0 object.1) }
 {
+    let (kind, place) = object;
     append_task(scene.sys, task, out)?;
     append(does, out)?;
     append_object(scene.sys, kind, place, out)
@@ -157,10 +151,10 @@ fn append_spin(
 ) -> Result<(), AllocError>
     ensures { OnOk result (out.new.items ≡ out.old.items ++ spec.spin_line (sight_of scene.now) task spin) }
 {
-    let kind = ObjectKind::SpinLock;
-    append_doing(scene, task, b" spins for ", kind, spin.lock, out)?;
+    let lock = (ObjectKind::SpinLock, spin.lock);
+    append_doing(scene, task, b" spins for ", lock, out)?;
     append_since(scene, task, out)?;
-    append_taken(scene, b"; taken by ", b"", kind, spin.lock, out)?;
+    append_taken(scene, b"; taken by ", b"", lock, out)?;
     append(b"\n", out)
 }
 
@@ -329,15 +323,14 @@ fn append_does(
     scene: &Scene<'_>,
     task: usize,
     does: &[u8],
-    kind: ObjectKind,
-    place: u8,
+    object: (ObjectKind, u8),
     out: &mut Vec<u8>,
 ) -> Result<(), AllocError>
     ensures { OnOk result (out.new.items
-        ≡ out.old.items ++ spec.link (sight_of scene.now) task does.now kind place) }
+        ≡ out.old.items ++ spec.link (sight_of scene.now) task does.now object.0 object.1) }
 {
-    append_doing(scene, task, does, kind, place, out)?;
-    append_taken(scene, b" (taken by ", b")", kind, place, out)
+    append_doing(scene, task, does, object, out)?;
+    append_taken(scene, b" (taken by ", b")", object, out)
 }
 
 /// The object that a task in this phase waits for, if it waits for one.
@@ -362,10 +355,10 @@ fn append_link_by(
         ≡ out.old.items ++ spec.link_by (sight_of scene.now) task waited spun) }
 {
     match (waited, spun) {
-        (Some((kind, place)), _) => append_does(scene, task, b" waits for ", kind, place, out),
+        (Some(object), _) => append_does(scene, task, b" waits for ", object, out),
         (None, Some(spin)) => {
-            let kind = ObjectKind::SpinLock;
-            append_does(scene, task, b" spins for ", kind, spin.lock, out)
+            let lock = (ObjectKind::SpinLock, spin.lock);
+            append_does(scene, task, b" spins for ", lock, out)
         }
         (None, None) => Ok(()),
     }

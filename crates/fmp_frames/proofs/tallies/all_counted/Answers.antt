@@ -6,8 +6,8 @@ use Rattle.fmp_frames.proofs.tallies.all_counted.Goals as goal
 
 pub loop-task-preserved : goal.loop-task-preserved
 loop-task-preserved c =
-    each-more (λ t. counted t c.args.lines.now c.args.kept c.args.was.now c.args.is.now
+    each-more (λ t. counted t c.args.event.lines.now c.args.event.kept c.args.event.was.now c.args.event.is.now
     (get_or c.args.before.now t nothing))
     _ _ _ _ c.loop-task.invariant c.in_ok-push.ensures.items
-    (c.counted.ensures ∙ ap (λ (x : TaskTally). counted c.loop-task.task c.args.lines.now c.args.kept c.args.was.now
-    c.args.is.now x) c.tally_at-tally.ensures)
+    (c.counted.ensures ∙ ap (λ (x : TaskTally). counted c.loop-task.task c.args.event.lines.now c.args.event.kept
+    c.args.event.was.now c.args.event.is.now x) c.tally_at-tally.ensures)

@@ -5,4 +5,6 @@ use Rattle.fmp_frames.proofs.tallies.all_counted.Given as goal
 
 abbrev pub invariant-loop-task : goal.invariant-loop-task
 invariant-loop-task l =
-    l.tallies.items ≡ each (λ t. counted t l.lines l.kept l.was l.is (get_or l.before t nothing)) l.task
+    l.tallies.items
+    ≡ each (λ t. counted t l.event.lines.now l.event.kept l.event.was.now l.event.is.now (get_or l.before t nothing))
+    l.task

@@ -1,7 +1,7 @@
 //! The lines of a trace with where their calls stand.
 ghost use Rattle.std.specs.Prelude.{◌≡◌, ◌++◌, IfOk, OnOk};
 ghost use Rattle.fmp_base.specs.Systems.{tables_of};
-ghost use Rattle.fmp_frames.specs.PlacedLines as spec;
+ghost use Rattle.fmp_frames.specs.PositionedLines as spec;
 
 use crate::call_positions::CallPosition;
 use fmp_base::{Line, System};
@@ -18,21 +18,30 @@ pub enum LineForm {
     Record,
 }
 
-/// Appends lines of the event of this number.
+/// What an event told.
+#[derive(Clone, Copy)]
+pub struct EventLines<'a> {
+    /// The number of the event; 0 of setup.
+    pub number: u32,
+    /// Where its call stands, if that is known.
+    pub position: Option<CallPosition>,
+    pub lines: &'a [Line],
+}
+
+/// Appends lines of an event.
 fn append_told(
     alloc: Global,
     form: LineForm,
     sys: &System,
-    number: u32,
-    lines: &[Line],
+    told: EventLines<'_>,
     out: &mut Vec<u8>,
 ) -> Result<(), AllocError>
     ensures { OnOk result (out.new.items
-        ≡ out.old.items ++ spec.told form (tables_of sys.now) number lines.now) }
+        ≡ out.old.items ++ spec.told form (tables_of sys.now) told.entry.number told.entry.lines.now) }
 {
     match form {
-        LineForm::Text => append_lines(sys, number, lines, out),
-        LineForm::Record => append_records(alloc, sys, number, lines, out),
+        LineForm::Text => append_lines(sys, told.number, told.lines, out),
+        LineForm::Record => append_records(alloc, sys, told.number, told.lines, out),
     }
 }
 
@@ -77,8 +86,8 @@ fn before_column(form: LineForm) -> &'static [u8]
 }
 
 /// What stands after the number of a column.
-fn behind_column(form: LineForm) -> &'static [u8]
-    ensures { result.now ≡ spec.behind_column form }
+fn after_column(form: LineForm) -> &'static [u8]
+    ensures { result.now ≡ spec.after_column form }
 {
     match form {
         LineForm::Text => b"\n",
@@ -98,7 +107,7 @@ fn append_position(
     out.extend_from_slice(Buffer::new().format(position.line).as_bytes())?;
     out.extend_from_slice(before_column(form))?;
     out.extend_from_slice(Buffer::new().format(position.column as u64).as_bytes())?;
-    out.extend_from_slice(behind_column(form))
+    out.extend_from_slice(after_column(form))
 }
 
 /// A printed line, with where its call stands if that is known.
@@ -117,44 +126,54 @@ fn with_position(
     Ok(text)
 }
 
-/// Appends the first line of the event of this number, with where its call stands if that is known.
-fn append_first(
+/// Appends lines of an event, the last of them with where its call stands if that is known.
+fn append_called(
     alloc: Global,
     form: LineForm,
     sys: &System,
-    number: u32,
-    position: Option<CallPosition>,
-    line: Line,
+    told: EventLines<'_>,
     out: &mut Vec<u8>,
 ) -> Result<(), AllocError>
-    ensures { OnOk result (out.new.items
-        ≡ out.old.items ++ spec.first_text form (tables_of sys.now) number position line) }
+    ensures { OnOk result (out.new.items ≡ out.old.items ++ spec.with_position form told.entry.position
+        (spec.told form (tables_of sys.now) told.entry.number told.entry.lines.now)) }
 {
     let mut text = Vec::new(alloc);
-    append_told(alloc, form, sys, number, &[line], &mut text)?;
-    let text = with_position(form, position_in(line, position), text)?;
+    append_told(alloc, form, sys, told, &mut text)?;
+    let text = with_position(form, told.position, text)?;
     out.extend_from_slice(&text)
 }
 
-/// Appends the lines of the event of this number, with the names of objects, and where its call stands if that is
-/// known. `AllocError` if memory runs out.
-pub fn append_placed(
+/// Appends the lines of an event, with the names of objects, and where its call stands if that is known. `AllocError`
+/// if memory runs out.
+pub fn append_positioned(
     alloc: Global,
     form: LineForm,
     sys: &System,
-    number: u32,
-    position: Option<CallPosition>,
-    lines: &[Line],
+    told: EventLines<'_>,
     out: &mut Vec<u8>,
 ) -> Result<(), AllocError>
-    ensures { OnOk result (out.new.items
-        ≡ out.old.items ++ spec.placed form (tables_of sys.now) number position lines.now) }
+    ensures { OnOk result (out.new.items ≡ out.old.items ++ spec.positioned form (tables_of sys.now)
+        told.entry.number told.entry.position told.entry.lines.now) }
 {
-    match lines {
+    match told.lines {
         [] => Ok(()),
         [first, rest @ ..] => {
-            append_first(alloc, form, sys, number, position, *first, out)?;
-            append_told(alloc, form, sys, number, rest, out)
+            let call = EventLines {
+                position: position_in(*first, told.position),
+                lines: &[*first],
+                ..told
+            };
+            append_called(alloc, form, sys, call, out)?;
+            append_told(
+                alloc,
+                form,
+                sys,
+                EventLines {
+                    lines: rest,
+                    ..told
+                },
+                out,
+            )
         }
     }
 }

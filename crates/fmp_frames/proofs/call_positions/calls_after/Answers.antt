@@ -1,12 +1,12 @@
 use Rattle.std.proofs.Common.{◌≡◌, ◌+◌, [], ◌++◌, append-nil, append_assoc, cond, drop, true, false, sym, ap, ◌∙◌}
 use Rattle.fmp_frames.proofs.Bodies.{call_positions_at}
-use Rattle.fmp_frames.proofs.call_positions.calls_behind.Goals as goal
+use Rattle.fmp_frames.proofs.call_positions.calls_after.Goals as goal
 use Rattle.fmp_frames.specs.CallPositions.{call_position_at, call_positions, head_at}
 
 pub returns-then-begins_at : goal.returns-then-begins_at
 returns-then-begins_at c =
-    let begins = c.args.begins.now in
-    let ts = c.args.tokens.now in
+    let begins = c.args.text.begins.now in
+    let ts = c.args.text.tokens.now in
     let i = c.loop-at.at in
     let head : head_at ts i ≡ true = sym c.begins_at.ensures ∙ c.if-begins_at.true in
     let none : call_positions begins (drop i ts) ≡ [] =
@@ -18,8 +18,8 @@ returns-then-begins_at c =
 
 pub loop-at-preserved : goal.loop-at-preserved
 loop-at-preserved c =
-    let begins = c.args.begins.now in
-    let ts = c.args.tokens.now in
+    let begins = c.args.text.begins.now in
+    let ts = c.args.text.tokens.now in
     let i = c.loop-at.at in
     let calls = c.loop-at.calls.items in
     let more = call_positions begins (drop (i + 1) ts) in

@@ -6,8 +6,8 @@ use Rattle.fmp_base.specs.Systems.{SystemTables}
 use Rattle.fmp_named.specs.Lines.{named_lines}
 use Rattle.fmp_named.specs.Records.{line_records}
 use Rattle.fmp_frames.specs.declared.call_positions.CallPosition.{CallPosition}
-use Rattle.fmp_frames.specs.declared.placed_lines.LineForm.{LineForm}
-use Rattle.fmp_frames.specs.declared.placed_lines.LineForm.TheVariants as form
+use Rattle.fmp_frames.specs.declared.positioned_lines.LineForm.{LineForm}
+use Rattle.fmp_frames.specs.declared.positioned_lines.LineForm.TheVariants as form
 
 -- lines of event k
 abbrev pub told : LineForm → SystemTables → ℕ → List Line → List ℕ
@@ -28,14 +28,14 @@ abbrev pub before_column : LineForm → List ℕ
 before_column form.Text = codes ":"
 before_column form.Record = codes ",\"column\":"
 
-abbrev pub behind_column : LineForm → List ℕ
-behind_column form.Text = codes "\n"
-behind_column form.Record = codes "}\n"
+abbrev pub after_column : LineForm → List ℕ
+after_column form.Text = codes "\n"
+after_column form.Record = codes "}\n"
 
 -- where a call stands, and the end of its line
 abbrev pub position_text : LineForm → CallPosition → List ℕ
 position_text f p =
-    before_line f ++ (decimal p.line ++ (before_column f ++ (decimal p.column ++ behind_column f)))
+    before_line f ++ (decimal p.line ++ (before_column f ++ (decimal p.column ++ after_column f)))
 
 -- a line, with where its call stands in place of its end if that is known
 abbrev pub with_position : LineForm → Option CallPosition → (text : List ℕ) → List ℕ
@@ -52,6 +52,6 @@ abbrev pub first_text : LineForm → SystemTables → ℕ → Option CallPositio
 first_text f sys k position l = with_position f (position_in l position) (told f sys k (l ∷ []))
 
 -- the lines of event k, with where its call stands
-abbrev pub placed : LineForm → SystemTables → ℕ → Option CallPosition → List Line → List ℕ
-placed f sys k position [] = []
-placed f sys k position (l ∷ ls) = first_text f sys k position l ++ told f sys k ls
+abbrev pub positioned : LineForm → SystemTables → ℕ → Option CallPosition → List Line → List ℕ
+positioned f sys k position [] = []
+positioned f sys k position (l ∷ ls) = first_text f sys k position l ++ told f sys k ls
