@@ -7,7 +7,7 @@ use Rattle.fmp_frames.specs.CallPositions.{head_at}
 use Rattle.fmp_lex.specs.declared.token.Token.{Token}
 use Rattle.fmp_lex.specs.declared.token.TokenKind.{TokenKind}
 use Rattle.fmp_lex.specs.Reading.{kinds_of}
-use Rattle.fmp_looking.specs.NamedSystems.{name_at, name_here, names_behind}
+use Rattle.fmp_looking.specs.NamedSystems.{name_at, name_here, names_after}
 
 -- what the token at a place is
 pub name_found : (h : Bool) (ts : List Token) (i : ℕ) (k : TokenKind) → Some k ≡ slice_get (kinds_of ts) i
@@ -25,22 +25,22 @@ next : (i : ℕ) → suc (i + 1) ≡ suc i + 1
 next i = omega arith
 
 names_from : (h : Bool) (ts : List Token) (i : ℕ) → i < length ts
-    → names_behind h (drop i ts) ≡ name_at h ts i ++ names_behind (head_at ts i) (drop (i + 1) ts)
+    → names_after h (drop i ts) ≡ name_at h ts i ++ names_after (head_at ts i) (drop (i + 1) ts)
 names_from h [] i below = absurd (omega arith)
 names_from h (t ∷ ts) zero below = refl
 names_from h (t ∷ ts) (suc i) below =
     names_from h ts i (omega arith)
-    ∙ ap (λ k. name_at h ts i ++ names_behind (head_at ts i) (drop k (t ∷ ts))) (next i)
+    ∙ ap (λ k. name_at h ts i ++ names_after (head_at ts i) (drop k (t ∷ ts))) (next i)
 
 -- after one more token
 pub names_step : (h h' : Bool) (ts : List Token) (i : ℕ) (before after total : List Name) → i < length ts
     → after ≡ before ++ name_at h ts i → h' ≡ head_at ts i
-    → before ++ names_behind h (drop i ts) ≡ total
-    → after ++ names_behind h' (drop (i + 1) ts) ≡ total
+    → before ++ names_after h (drop i ts) ≡ total
+    → after ++ names_after h' (drop (i + 1) ts) ≡ total
 names_step h h' ts i before after total below more moved so_far =
     let rest : List Token = drop (i + 1) ts in
-    ap (λ (b : Bool). after ++ names_behind b rest) moved
-    ∙ ap (λ (q : List Name). q ++ names_behind (head_at ts i) rest) more
-    ∙ append_assoc before (name_at h ts i) (names_behind (head_at ts i) rest)
+    ap (λ (b : Bool). after ++ names_after b rest) moved
+    ∙ ap (λ (q : List Name). q ++ names_after (head_at ts i) rest) more
+    ∙ append_assoc before (name_at h ts i) (names_after (head_at ts i) rest)
     ∙ ap (λ (q : List Name). before ++ q) (sym (names_from h ts i below))
     ∙ so_far

@@ -22,6 +22,14 @@ next_edge s parts k =
     let size = div_ceil (s.last - s.before) parts in
     rw (one_more k size) (between s.before s.last (k * size) size)
 
+from_min : (b l x : ℕ) → b ≤ l → min (b + x) l ≡ b + (min (b + x) l - b)
+from_min b l x h = omega (arith, h)
+
+-- a part begins after the seeds of those before it
+pub edge_from : (s : Seeds) (parts k : ℕ) → s.before ≤ s.last
+    → edge s parts k ≡ s.before + (edge s parts k - s.before)
+edge_from s parts k h = from_min s.before s.last (k * div_ceil (s.last - s.before) parts) h
+
 whole : (b l x : ℕ) → l - b ≤ x → min (b + x) l - b ≡ l - b
 whole b l x h = omega (arith, h)
 

@@ -1,9 +1,9 @@
 -- What is seen of runs, where it was seen in parts.
-use Rattle.std.proofs.Common.{◌≡◌, ◌∙◌, ℕ, ◌+◌, ◌-◌, ◌<◌, List, [], ◌∷◌, ◌++◌, Option, Some, None, Result, Ok, Err}
-use Rattle.std.proofs.Common.{IfOk, ap, append_assoc, arith, count_by, get_or, length, length-append, refl, sym}
+use Rattle.std.proofs.Common.{◌≡◌, ◌∙◌, ℕ, suc, ◌+◌, ◌-◌, ◌<◌, ◌≤◌, List, [], ◌∷◌, ◌++◌, Option, Some, None, Result, Ok}
+use Rattle.std.proofs.Common.{Err, IfOk, ap, append_assoc, arith, count_by, get_or, length, length-append, refl, subst}
+use Rattle.std.proofs.Common.{sym}
 use Rattle.std.proofs.Math.Path.{fun_ext}
 use Rattle.std.proofs.lemmas.List.{append-nil}
-use Rattle.std.specs.List.{AllByRecursion}
 use Rattle.fmp_base.specs.declared.calls.Reply.{Reply}
 use Rattle.fmp_base.specs.declared.codes.Er.{Er}
 use Rattle.fmp_base.specs.declared.events.Effect.{Effect}
@@ -29,84 +29,86 @@ use Rattle.fmp_looking.specs.Ways.{TimesGone, both_gone, capped, goes, none_gone
 use Rattle.fmp_looking.specs.declared.observing.CallSeen.{CallSeen}
 use Rattle.fmp_looking.specs.declared.observing.Outcome.TheVariants as outcome
 use Rattle.fmp_looking.specs.Branches.{branch_steps}
-use Rattle.fmp_looking.specs.Covered.{AreRunsSeen, IsWithPart, Seen, both, none_seen, seen_at, with_run, with_runs}
+use Rattle.fmp_looking.specs.Covered.{AreMadeAfter, AreRunsSeen, IsWithPart, Seen, both, none_seen, seen_at, with_run}
+use Rattle.fmp_looking.specs.Covered.{with_runs}
 use Rattle.fmp_looking.specs.declared.covering.Sightings.{Sightings}
 use Rattle.fmp_looking.specs.Observed.{Heard, answered, calls_seen, heard_event, heard_in, heard_line, heard_lines}
 use Rattle.fmp_trials.specs.declared.seeds.Seeds.{Seeds}
 use Rattle.fmp_trials.specs.Parts.{edge}
-use Rattle.fmp_looking.proofs.PartLemmas.{first_edge, last_edge, next_edge}
+use Rattle.fmp_looking.proofs.PartLemmas.{edge_from, first_edge, last_edge, next_edge}
 use Rattle.fmp_looking.specs.Observed.{made, replied, unheard}
 
 -- the same, with these calls before all
-abbrev behind : List CallSeen → Heard → Heard
-behind cs h = record { calls = cs ++ h.calls; waiting = h.waiting }
+abbrev calls_before : List CallSeen → Heard → Heard
+calls_before cs h = record { calls = cs ++ h.calls; waiting = h.waiting }
 
 -- one call more
-one_behind : (cs : List CallSeen) (h : Heard) (c : CallSeen)
+one_call_after : (cs : List CallSeen) (h : Heard) (c : CallSeen)
     → record { calls = (cs ++ h.calls) ++ c ∷ []; waiting = h.waiting }
-    ≡ behind cs (record h { calls = h.calls ++ c ∷ [] })
-one_behind cs h c =
+    ≡ calls_before cs (record h { calls = h.calls ++ c ∷ [] })
+one_call_after cs h c =
     ap (λ (x : List CallSeen). record { calls = x; waiting = h.waiting }) (append_assoc cs h.calls (c ∷ []))
 
-made_behind : (cs : List CallSeen) (h : Heard) (p : Option CallPosition) → made (behind cs h) p ≡ behind cs (made h p)
-made_behind cs h None = refl
-made_behind cs h (Some p) = one_behind cs h (record { position = p; outcome = outcome.Made })
+made_after : (cs : List CallSeen) (h : Heard) (p : Option CallPosition)
+    → made (calls_before cs h) p ≡ calls_before cs (made h p)
+made_after cs h None = refl
+made_after cs h (Some p) = one_call_after cs h (record { position = p; outcome = outcome.Made })
 
-answered_behind : (cs : List CallSeen) (h : Heard) (p : Option CallPosition) (c : Er)
-    → answered (behind cs h) p c ≡ behind cs (answered h p c)
-answered_behind cs h None c = refl
-answered_behind cs h (Some p) c = one_behind cs h (record { position = p; outcome = outcome.Answered c })
+answered_after : (cs : List CallSeen) (h : Heard) (p : Option CallPosition) (c : Er)
+    → answered (calls_before cs h) p c ≡ calls_before cs (answered h p c)
+answered_after cs h None c = refl
+answered_after cs h (Some p) c = one_call_after cs h (record { position = p; outcome = outcome.Answered c })
 
-replied_behind : (cs : List CallSeen) (h : Heard) (p : Option CallPosition) (who : Caller) (r : Option Reply)
-    → replied (behind cs h) p who r ≡ behind cs (replied h p who r)
-replied_behind cs h p who (Some r) = answered_behind cs h p r.code
-replied_behind cs h p (caller.Task t) None = refl
-replied_behind cs h p (caller.Handler x) None = refl
+replied_after : (cs : List CallSeen) (h : Heard) (p : Option CallPosition) (who : Caller) (r : Option Reply)
+    → replied (calls_before cs h) p who r ≡ calls_before cs (replied h p who r)
+replied_after cs h p who (Some r) = answered_after cs h p r.code
+replied_after cs h p (caller.Task t) None = refl
+replied_after cs h p (caller.Handler x) None = refl
 
-line_behind : (cs : List CallSeen) (h : Heard) (p : Option CallPosition) (l : Line)
-    → heard_line (behind cs h) p l ≡ behind cs (heard_line h p l)
-line_behind cs h p (line.Call q who c reply) = replied_behind cs h p who reply
-line_behind cs h p (line.Gets q t reply) = answered_behind cs h (get_or h.waiting t None) reply.code
-line_behind cs h p (line.Tick t) = refl
-line_behind cs h p (line.Int i) = refl
-line_behind cs h p (line.End q who) = refl
-line_behind cs h p (line.Fault q who f) = refl
-line_behind cs h p (line.Starts q t) = refl
-line_behind cs h p (line.Pends q c) = refl
-line_behind cs h p (line.Begins q x) = refl
-line_behind cs h p (line.Runs q t) = refl
+line_after : (cs : List CallSeen) (h : Heard) (p : Option CallPosition) (l : Line)
+    → heard_line (calls_before cs h) p l ≡ calls_before cs (heard_line h p l)
+line_after cs h p (line.Call q who c reply) = replied_after cs h p who reply
+line_after cs h p (line.Gets q t reply) = answered_after cs h (get_or h.waiting t None) reply.code
+line_after cs h p (line.Tick t) = refl
+line_after cs h p (line.Int i) = refl
+line_after cs h p (line.End q who) = refl
+line_after cs h p (line.Fault q who f) = refl
+line_after cs h p (line.Starts q t) = refl
+line_after cs h p (line.Pends q c) = refl
+line_after cs h p (line.Begins q x) = refl
+line_after cs h p (line.Runs q t) = refl
 
-lines_behind : (cs : List CallSeen) (h : Heard) (p : Option CallPosition) (ls : List Line)
-    → heard_lines (behind cs h) p ls ≡ behind cs (heard_lines h p ls)
-lines_behind cs h p [] = refl
-lines_behind cs h p (l ∷ ls) =
-    ap (λ (x : Heard). heard_lines x p ls) (line_behind cs h p l) ∙ lines_behind cs (heard_line h p l) p ls
+lines_after : (cs : List CallSeen) (h : Heard) (p : Option CallPosition) (ls : List Line)
+    → heard_lines (calls_before cs h) p ls ≡ calls_before cs (heard_lines h p ls)
+lines_after cs h p [] = refl
+lines_after cs h p (l ∷ ls) =
+    ap (λ (x : Heard). heard_lines x p ls) (line_after cs h p l) ∙ lines_after cs (heard_line h p l) p ls
 
-event_behind : (cs : List CallSeen) (h : Heard) (p : Option CallPosition) (e : Effect) (ls : List Line)
-    → heard_event (behind cs h) p e ls ≡ behind cs (heard_event h p e ls)
-event_behind cs h p effect.Nothing ls = refl
-event_behind cs h p effect.Kept ls = refl
-event_behind cs h p effect.Done ls =
-    ap (λ (x : Heard). heard_lines x p ls) (made_behind cs h p) ∙ lines_behind cs (made h p) p ls
+event_after : (cs : List CallSeen) (h : Heard) (p : Option CallPosition) (e : Effect) (ls : List Line)
+    → heard_event (calls_before cs h) p e ls ≡ calls_before cs (heard_event h p e ls)
+event_after cs h p effect.Nothing ls = refl
+event_after cs h p effect.Kept ls = refl
+event_after cs h p effect.Done ls =
+    ap (λ (x : Heard). heard_lines x p ls) (made_after cs h p) ∙ lines_after cs (made h p) p ls
 
 module _ {B : Type 0} (meaning : B → Meaning MachineContext) (code : List BodyTables)
     (bodies : List (List CallPosition)) where
-  run_behind : (cs : List CallSeen) (k : KernelView B MachineContext) (es : List Event) (h : Heard)
-      → heard_in meaning code bodies k es (behind cs h) ≡ behind cs (heard_in meaning code bodies k es h)
-  run_behind cs k [] h = refl
-  run_behind cs k (e ∷ es) h =
+  heard_after : (cs : List CallSeen) (k : KernelView B MachineContext) (es : List Event) (h : Heard)
+      → heard_in meaning code bodies k es (calls_before cs h) ≡ calls_before cs (heard_in meaning code bodies k es h)
+  heard_after cs k [] h = refl
+  heard_after cs k (e ∷ es) h =
       let reaction = reaction_of meaning k e in
       let after : KernelView B MachineContext = view_after k reaction in
       let position : Option CallPosition = event_position meaning code bodies k e in
       ap (λ (x : Heard). heard_in meaning code bodies after es x)
-      (event_behind cs h position (effect_of reaction) after.lines)
-      ∙ run_behind cs after es (heard_event h position (effect_of reaction) after.lines)
+      (event_after cs h position (effect_of reaction) after.lines)
+      ∙ heard_after cs after es (heard_event h position (effect_of reaction) after.lines)
 
   -- the calls of a run stand after those that were known
-  calls_behind : (cs : List CallSeen) (k : KernelView B MachineContext) (es : List Event) (calls : List CallSeen)
+  calls_after : (cs : List CallSeen) (k : KernelView B MachineContext) (es : List Event) (calls : List CallSeen)
       → calls_seen meaning code bodies k es (cs ++ calls) ≡ cs ++ calls_seen meaning code bodies k es calls
-  calls_behind cs k es calls =
-      ap (λ (x : Heard). x.calls) (run_behind cs k es (unheard calls (length k.system.tasks)))
+  calls_after cs k es calls =
+      ap (λ (x : Heard). x.calls) (heard_after cs k es (unheard calls (length k.system.tasks)))
 
 abbrev seen_by : List (List CallPosition) → List (Option CallPosition) → List CallSeen → TimesGone → Seen
 seen_by positions made calls gone = record { positions = positions; made = made; calls = calls; gone = gone }
@@ -148,7 +150,7 @@ module _ (i : ImageTables) (n : ℕ) where
       ∙ ap
       (λ (x : List CallSeen). seen_by t.positions (s.made ++ (t.made ++ positions)) x
       (with_steps (both_gone s.gone t.gone) steps))
-      (calls_behind code_meaning i.code t.positions s.calls start es t.calls)
+      (calls_after code_meaning i.code t.positions s.calls start es t.calls)
       ∙ ap (λ (x : TimesGone). seen_by t.positions (s.made ++ (t.made ++ positions))
       (s.calls ++ calls_seen code_meaning i.code t.positions start es t.calls) x)
       (gone_after s.gone t.gone steps)
@@ -189,21 +191,30 @@ module _ (i : ImageTables) (n : ℕ) where
       none_after (with_runs i n (none_seen positions) runs) (with_runs i n (none_seen positions) runs).gone
       (still_none (none_seen positions) runs none_and_none)
 
-  all_both : (P : List Event → Type 0) (a b : List (List Event)) → AllByRecursion P a → AllByRecursion P b
-      → AllByRecursion P (a ++ b)
-  all_both P [] b h g = g
-  all_both P (es ∷ a) b h g = (h.0, all_both P a b h.1 g)
+  no_seed : (before : ℕ) → before + 0 ≡ before
+  no_seed before = omega arith
+
+  one_seed : (before count : ℕ) → before + suc count ≡ before + 1 + count
+  one_seed before count = omega arith
+
+  all_both : (P : (seed : ℕ) → List Event → Type 0) (before : ℕ) (a b : List (List Event)) → AreMadeAfter P before a
+      → AreMadeAfter P (before + length a) b → AreMadeAfter P before (a ++ b)
+  all_both P before [] b h g = subst (λ (k : ℕ). AreMadeAfter P k b) (no_seed before) g
+  all_both P before (es ∷ a) b h g =
+      (h.0, all_both P (before + 1) a b h.1 (subst (λ (k : ℕ). AreMadeAfter P k b) (one_seed before (length a)) g))
 
   -- what is seen of some runs, and of others after them, is seen of all
-  pub both_seen : (P : List Event → Type 0) (positions : List (List CallPosition)) (a b : ℕ) (s t : Seen)
-      → AreRunsSeen P positions i n a s → AreRunsSeen P positions i n b t
-      → AreRunsSeen P positions i n (a + b) (both s t)
-  both_seen P positions a b s t h g =
+  pub both_seen : (P : (seed : ℕ) → List Event → Type 0) (positions : List (List CallPosition)) (before a b : ℕ)
+      (s t : Seen) → AreRunsSeen P positions i n before a s → AreRunsSeen P positions i n (before + a) b t
+      → AreRunsSeen P positions i n before (a + b) (both s t)
+  both_seen P positions before a b s t h g =
       let all : Seen = with_runs i n (none_seen positions) h.runs in
       let there : all.positions ≡ positions = positions_stay (none_seen positions) h.runs in
       record {
         runs = h.runs ++ g.runs;
-        made = all_both P h.runs g.runs h.made g.made;
+        made =
+            all_both P before h.runs g.runs h.made
+            (subst (λ (k : ℕ). AreMadeAfter P (before + k) g.runs) (sym h.many) g.made);
         many =
             length-append h.runs g.runs
             ∙ ap (λ (x : ℕ). x + length g.runs) h.many
@@ -218,20 +229,24 @@ module _ (i : ImageTables) (n : ℕ) where
       }
 
   -- before the first part
-  pub before_parts : (P : List Event → Type 0) (positions : List (List CallPosition)) (seeds : Seeds) (parts : ℕ)
-      (s : Seen) → s ≡ none_seen positions → AreRunsSeen P positions i n (edge seeds parts 0 - seeds.before) s
+  pub before_parts : (P : (seed : ℕ) → List Event → Type 0) (positions : List (List CallPosition)) (seeds : Seeds)
+      (parts : ℕ) (s : Seen) → s ≡ none_seen positions
+      → AreRunsSeen P positions i n seeds.before (edge seeds parts 0 - seeds.before) s
   before_parts P positions seeds parts s none =
       record { runs = []; made = tt; many = sym (first_edge seeds parts); seen = none }
 
   -- after one part more
-  pub after_part : (P : List Event → Type 0) (positions : List (List CallPosition)) (seeds : Seeds) (parts k : ℕ)
-      (s t u : Seen) → AreRunsSeen P positions i n (edge seeds parts k - seeds.before) s
-      → AreRunsSeen P positions i n (edge seeds parts (k + 1) - edge seeds parts k) t → u ≡ both s t
-      → AreRunsSeen P positions i n (edge seeds parts (k + 1) - seeds.before) u
-  after_part P positions seeds parts k s t u h g is =
+  pub after_part : (P : (seed : ℕ) → List Event → Type 0) (positions : List (List CallPosition)) (seeds : Seeds)
+      (parts k : ℕ) (s t u : Seen) → seeds.before ≤ seeds.last
+      → AreRunsSeen P positions i n seeds.before (edge seeds parts k - seeds.before) s
+      → AreRunsSeen P positions i n (edge seeds parts k) (edge seeds parts (k + 1) - edge seeds parts k) t
+      → u ≡ both s t → AreRunsSeen P positions i n seeds.before (edge seeds parts (k + 1) - seeds.before) u
+  after_part P positions seeds parts k s t u some h g is =
       let before : ℕ = edge seeds parts k - seeds.before in
       let more : ℕ = edge seeds parts (k + 1) - edge seeds parts k in
-      let all = both_seen P positions before more s t h g in
+      let all =
+      both_seen P positions seeds.before before more s t h
+      (subst (λ (e : ℕ). AreRunsSeen P positions i n e more t) (edge_from seeds parts k some) g) in
       record {
         runs = all.runs;
         made = all.made;
@@ -240,21 +255,23 @@ module _ (i : ImageTables) (n : ℕ) where
       }
 
   -- after the last one
-  pub after_parts : (P : List Event → Type 0) (positions : List (List CallPosition)) (seeds : Seeds) (parts : ℕ)
-      (s : Seen) → 0 < parts → AreRunsSeen P positions i n (edge seeds parts parts - seeds.before) s
-      → AreRunsSeen P positions i n (seeds.last - seeds.before) s
+  pub after_parts : (P : (seed : ℕ) → List Event → Type 0) (positions : List (List CallPosition)) (seeds : Seeds)
+      (parts : ℕ) (s : Seen) → 0 < parts
+      → AreRunsSeen P positions i n seeds.before (edge seeds parts parts - seeds.before) s
+      → AreRunsSeen P positions i n seeds.before (seeds.last - seeds.before) s
   after_parts P positions seeds parts s some h =
       record { runs = h.runs; made = h.made; many = h.many ∙ last_edge seeds parts some; seen = h.seen }
 
   -- what is known after one part more, if there was memory for it
-  pub with_part : {E : Type 0} (P : List Event → Type 0) (positions : List (List CallPosition)) (seeds : Seeds)
-      (parts k : ℕ) (s u : Sightings) (part : Result Sightings E)
-      → AreRunsSeen P positions i n (edge seeds parts k - seeds.before) (seen_at positions s)
+  pub with_part : {E : Type 0} (P : (seed : ℕ) → List Event → Type 0) (positions : List (List CallPosition))
+      (seeds : Seeds) (parts k : ℕ) (s u : Sightings) (part : Result Sightings E) → seeds.before ≤ seeds.last
+      → AreRunsSeen P positions i n seeds.before (edge seeds parts k - seeds.before) (seen_at positions s)
       → IfOk part
-      (λ t. AreRunsSeen P positions i n (edge seeds parts (k + 1) - edge seeds parts k) (seen_at positions t))
+      (λ t. AreRunsSeen P positions i n (edge seeds parts k) (edge seeds parts (k + 1) - edge seeds parts k)
+      (seen_at positions t))
       → IsWithPart s part u
-      → AreRunsSeen P positions i n (edge seeds parts (k + 1) - seeds.before) (seen_at positions u)
-  with_part P positions seeds parts k s u (Ok t) h g with =
-      after_part P positions seeds parts k (seen_at positions s) (seen_at positions t) (seen_at positions u) h g
+      → AreRunsSeen P positions i n seeds.before (edge seeds parts (k + 1) - seeds.before) (seen_at positions u)
+  with_part P positions seeds parts k s u (Ok t) some h g with =
+      after_part P positions seeds parts k (seen_at positions s) (seen_at positions t) (seen_at positions u) some h g
       (with positions)
-  with_part P positions seeds parts k s u (Err e) h g with = absurd with
+  with_part P positions seeds parts k s u (Err e) some h g with = absurd with

@@ -1,5 +1,5 @@
 -- What the calls of runs were answered, one run after the other.
-use Rattle.std.proofs.Common.{◌≡◌, ◌∙◌, ℕ, ◌+◌, List, [], ◌∷◌, ◌++◌, ap, length, refl, subst, sym}
+use Rattle.std.proofs.Common.{◌≡◌, ◌∙◌, ℕ, ◌+◌, List, [], ◌∷◌, ◌++◌, ap, arith, length, refl, subst, sym}
 use Rattle.fmp_base.specs.declared.events.Event.{Event}
 use Rattle.fmp_image_bytes.specs.Images.{ImageTables}
 use Rattle.fmp_instructions.specs.Machine.{code_meaning}
@@ -25,19 +25,22 @@ runs_and : (i : ImageTables) (n : ℕ) (known : List SiteAnswer) (runs : List (L
 runs_and i n known [] es = refl
 runs_and i n known (run ∷ runs) es = runs_and i n (with_answers known (answers_to i n run)) runs es
 
-module _ (P : List Event → Type 0) where
+from_none : (count : ℕ) → count + 1 ≡ 0 + count + 1
+from_none count = omega arith
+
+module _ (P : (seed : ℕ) → List Event → Type 0) where
   -- before any run
   pub none_answered : (i : ImageTables) (n : ℕ) (known : List SiteAnswer) → known ≡ [] → AreAnswersOf P i n 0 known
   none_answered i n known none = record { runs = []; made = tt; many = refl; answers = none }
 
   -- after one run more
   pub one_answered : (i : ImageTables) (n count : ℕ) (known more next : List SiteAnswer) (es : List Event)
-      → AreAnswersOf P i n count known → P es → more ≡ answers_to i n es → next ≡ with_answers known more
+      → AreAnswersOf P i n count known → P (count + 1) es → more ≡ answers_to i n es → next ≡ with_answers known more
       → AreAnswersOf P i n (count + 1) next
   one_answered i n count known more next es h made is so =
       record {
         runs = h.runs ++ es ∷ [];
-        made = all_and P h.runs es h.made made;
+        made = all_and P 0 count h.runs es h.made h.many (subst (λ (seed : ℕ). P seed es) (from_none count) made);
         many = one_longer h.runs es ∙ ap (λ (k : ℕ). k + 1) h.many;
         answers =
             so
@@ -53,23 +56,21 @@ module _ (P : List Event → Type 0) where
       record { runs = h.runs; made = h.made; many = h.many ∙ is; answers = h.answers }
 
 -- the runs of a test, by other names of what is expected and of their plan
-pub refused_of_test : (t : ImageTest) (form : LineForm) (file src : List ℕ) (count : ℕ) (out : List ℕ)
+pub refused_of_test : (t : ImageTest) (form : LineForm) (file src : List ℕ) (last : ℕ) (out : List ℕ)
     (xs ys : List Expected) (plan : RunPlan) → xs ≡ ys → plan ≡ plan_in t
     → AreRefusedLines
-    (λ es. (seed : ℕ)
-    × IsRandomRun code_meaning (kernel_after t.image.now t.testing.bound []) xs (choices_of plan seed) es) form file
-    src t.image.now t.testing.bound count out
-    → AreRefusedLines (IsTestRun t ys) form file src t.image.now t.testing.bound count out
-refused_of_test t form file src count out xs ys plan is same h =
+    (λ seed es. IsRandomRun code_meaning (kernel_after t.image.now t.testing.bound []) xs (choices_of plan seed) es)
+    form file src t.image.now t.testing.bound last out
+    → AreRefusedLines (IsTestRun t ys) form file src t.image.now t.testing.bound last out
+refused_of_test t form file src last out xs ys plan is same h =
     subst
     (λ (zs : List Expected).
     AreRefusedLines
-    (λ es. (seed : ℕ)
-    × IsRandomRun code_meaning (kernel_after t.image.now t.testing.bound []) zs (choices_of (plan_in t) seed) es)
-    form file src t.image.now t.testing.bound count out) is
+    (λ seed es.
+    IsRandomRun code_meaning (kernel_after t.image.now t.testing.bound []) zs (choices_of (plan_in t) seed) es) form
+    file src t.image.now t.testing.bound last out) is
     (subst
     (λ (p : RunPlan).
     AreRefusedLines
-    (λ es. (seed : ℕ)
-    × IsRandomRun code_meaning (kernel_after t.image.now t.testing.bound []) xs (choices_of p seed) es) form file src
-    t.image.now t.testing.bound count out) same h)
+    (λ seed es. IsRandomRun code_meaning (kernel_after t.image.now t.testing.bound []) xs (choices_of p seed) es) form
+    file src t.image.now t.testing.bound last out) same h)

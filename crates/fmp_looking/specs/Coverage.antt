@@ -1,11 +1,10 @@
 -- How often the calls in each line of a text were made, and the tracefile of lcov that tells it.
 use Rattle.std.specs.Prelude.{ℕ, zero, suc, ◌≡◌, ◌<◌, ◌≤◌, ◌==◌, ◌⊎◌, ◌||◌, Bool, true, false, not, if◌then◌else◌}
 use Rattle.std.specs.Prelude.{List, [], ◌∷◌, ◌++◌, Option, Some, None, codes, count_by, decimal, length, map}
-use Rattle.std.specs.Prelude.{option_map, slice_get, unwrap_or}
 use Rattle.std.specs.List.{flat_map, list_any}
 use Rattle.fmp_looking.specs.declared.tables.BranchCount.{BranchCount}
 use Rattle.fmp_frames.specs.declared.call_positions.CallPosition.{CallPosition}
-use Rattle.fmp_frames.specs.CallPositions.{is_service}
+use Rattle.fmp_frames.specs.CallPositions.{is_service_at, line_at}
 use Rattle.fmp_lex.specs.declared.token.Token.{Token}
 use Rattle.fmp_lex.specs.Cutting.{Cuts}
 use Rattle.fmp_lex.specs.Faults.{text_max}
@@ -20,13 +19,7 @@ is_line line other = other == line
 abbrev pub with_line : List ℕ → ℕ → List ℕ
 with_line lines line = if list_any (is_line line) lines then lines else lines ++ line ∷ []
 
--- whether the token at a place names a service call, and its line
-abbrev pub is_service_at : List Token → ℕ → Bool
-is_service_at ts i = unwrap_or (option_map (λ t. is_service t.kind) (slice_get ts i)) false
-
-abbrev pub line_at : List Token → ℕ → ℕ
-line_at ts i = unwrap_or (option_map (λ t. t.line) (slice_get ts i)) 0
-
+-- the same with the line of the token at a place, if that names a service call
 abbrev pub with_token : List ℕ → List Token → ℕ → List ℕ
 with_token lines ts i = if is_service_at ts i then with_line lines (line_at ts i) else lines
 

@@ -1,7 +1,6 @@
 -- The coverage of the text of its bodies by runs of an image: as a table, and as a tracefile of lcov.
-use Rattle.std.specs.Prelude.{ℕ, ◌≡◌, ◌+◌, ◌-◌, ◌<◌, List, [], ◌∷◌, ◌++◌, Option, Result, Ok, Err, IfOk, length}
+use Rattle.std.specs.Prelude.{ℕ, ◌≡◌, ◌+◌, ◌-◌, ◌<◌, List, [], ◌∷◌, ◌++◌, Option, Result, Ok, Err, ⊤, IfOk, length}
 use Rattle.std.specs.Prelude.{map, slice_index_or}
-use Rattle.std.specs.List.{AllByRecursion}
 use Rattle.fmp_base.specs.declared.events.Event.{Event}
 use Rattle.fmp_base.specs.Systems.{tables_of}
 use Rattle.fmp_expect.specs.declared.expectation.Expected.{Expected}
@@ -72,11 +71,16 @@ with_runs i n s (es ∷ runs) = with_runs i n (with_run i n s es) runs
 abbrev pub both : Seen → Seen → Seen
 both s t = record t { made = s.made ++ t.made; calls = s.calls ++ t.calls; gone = both_gone s.gone t.gone }
 
--- this was seen of runs of an image, this many, each of which is made so, and whose calls stand at these positions
-pub record AreRunsSeen (IsMade : List Event → Type 0) (positions : List (List CallPosition)) (i : ImageTables)
-    (n count : ℕ) (s : Seen) : Type 0 where
+-- these runs are made so, each by its seed: the first by the seed after this one, each other by the next
+abbrev pub AreMadeAfter : (IsMade : (seed : ℕ) → List Event → Type 0) → (before : ℕ) → List (List Event) → Type 0
+AreMadeAfter IsMade before [] = ⊤
+AreMadeAfter IsMade before (es ∷ runs) = IsMade (before + 1) es × AreMadeAfter IsMade (before + 1) runs
+
+-- this was seen of runs of an image, whose calls stand at these positions: those of the seeds after this one, this many
+pub record AreRunsSeen (IsMade : (seed : ℕ) → List Event → Type 0) (positions : List (List CallPosition))
+    (i : ImageTables) (n before count : ℕ) (s : Seen) : Type 0 where
   pub runs : List (List Event)
-  pub made : AllByRecursion IsMade runs
+  pub made : AreMadeAfter IsMade before runs
   pub many : length runs ≡ count
   pub seen : s ≡ with_runs i n (none_seen positions) runs
 
@@ -88,13 +92,14 @@ IsWithPart before (Ok part) after =
 IsWithPart before (Err e) after = ⊥
 
 -- what is seen of each part of seeds, where they are cut into this many
-abbrev pub ArePartsSeen : {E : Type 0} → (IsMade : List Event → Type 0) → List (List CallPosition) → ImageTables
-    → (n : ℕ) → Seeds → (parts : ℕ) → List (Result Sightings E) → Type 0
+abbrev pub ArePartsSeen : {E : Type 0} → (IsMade : (seed : ℕ) → List Event → Type 0) → List (List CallPosition)
+    → ImageTables → (n : ℕ) → Seeds → (parts : ℕ) → List (Result Sightings E) → Type 0
 ArePartsSeen {E} IsMade positions i n seeds parts seen =
     (length seen ≡ parts)
     × ((k : ℕ) (d : Result Sightings E) → k < parts
     → IfOk (slice_index_or seen k d)
-    (λ s. AreRunsSeen IsMade positions i n (edge seeds parts (k + 1) - edge seeds parts k) (seen_at positions s)))
+    (λ s. AreRunsSeen IsMade positions i n (edge seeds parts k) (edge seeds parts (k + 1) - edge seeds parts k)
+    (seen_at positions s)))
 
 -- this was seen of these runs of an image, in this text of its bodies
 pub record IsSeen (src : List ℕ) (i : ImageTables) (n : ℕ) (runs : List (List Event)) (s : Seen) : Type 0 where
@@ -102,32 +107,31 @@ pub record IsSeen (src : List ℕ) (i : ImageTables) (n : ℕ) (runs : List (Lis
   pub none : IsNoneSeen src first
   pub seen : s ≡ with_runs i n first runs
 
--- a random run of trials: that of a seed
-abbrev pub IsRunOf : Trials → List Event → Type 0
-IsRunOf t es =
-    (seed : ℕ)
-    × IsRandomRun code_meaning (kernel_after t.opened.image.now t.opened.bound []) t.expected.now
+-- the random run of a seed in trials
+abbrev pub IsRunOf : Trials → (seed : ℕ) → List Event → Type 0
+IsRunOf t seed es =
+    IsRandomRun code_meaning (kernel_after t.opened.image.now t.opened.bound []) t.expected.now
     (choices_of t.plan seed) es
 
--- this was seen of runs of an image, this many, each of which is made so
-pub record AreTrialsSeen (IsMade : List Event → Type 0) (src : List ℕ) (i : ImageTables) (n count : ℕ) (s : Seen)
-    : Type 0 where
+-- this was seen of the runs of an image of the seeds from 1 to this one
+pub record AreTrialsSeen (IsMade : (seed : ℕ) → List Event → Type 0) (src : List ℕ) (i : ImageTables) (n last : ℕ)
+    (s : Seen) : Type 0 where
   pub runs : List (List Event)
-  pub made : AllByRecursion IsMade runs
-  pub many : length runs ≡ count
+  pub made : AreMadeAfter IsMade 0 runs
+  pub many : length runs ≡ last
   pub seen : IsSeen src i n runs s
 
--- a random run of a test, that of a seed: it goes up to the first event that breaks one of these expectations
-abbrev pub IsTestRun : ImageTest → List Expected → List Event → Type 0
-IsTestRun t expected es =
-    (seed : ℕ)
-    × IsRandomRun code_meaning (kernel_after t.image.now t.testing.bound []) expected (choices_of (plan_in t) seed) es
+-- the random run of a seed in a test: it goes up to the first event that breaks one of these expectations
+abbrev pub IsTestRun : ImageTest → List Expected → (seed : ℕ) → List Event → Type 0
+IsTestRun t expected seed es =
+    IsRandomRun code_meaning (kernel_after t.image.now t.testing.bound []) expected (choices_of (plan_in t) seed) es
 
--- this was seen of random runs of a test, this many, which go by the expectations of a text that are not about calls
-pub record IsTestSeen (t : ImageTest) (texts : TestTexts) (count : ℕ) (s : Seen) : Type 0 where
+-- this was seen of the random runs of a test of the seeds from 1 to this one, which go by the expectations of a text
+-- that are not about calls
+pub record IsTestSeen (t : ImageTest) (texts : TestTexts) (last : ℕ) (s : Seen) : Type 0 where
   pub expected : List Expected
   pub read : other_sentences_of (tables_of t.configured.now) texts.expectations.now ≡ Ok expected
-  pub seen : AreTrialsSeen (IsTestRun t expected) texts.src.now t.image.now t.testing.bound count s
+  pub seen : AreTrialsSeen (IsTestRun t expected) texts.src.now t.image.now t.testing.bound last s
 
 -- the table of what is seen, of a text in a file
 pub record IsTable (file src : List ℕ) (s : Seen) (out : List ℕ) : Type 0 where

@@ -1,9 +1,12 @@
--- The statuses that the program ends with, and why a recording is not read.
-use Rattle.std.specs.Prelude.{ℕ, ◌≡◌, List, Bool, codes, nat_eq, if◌then◌else◌}
+-- What the program says and its status where it ends with nothing printed, and why a recording is not read.
+use Rattle.std.specs.Prelude.{ℕ, ◌≡◌, List, Bool, Option, Some, None, codes, nat_eq, if◌then◌else◌, string_bytes}
 use Rattle.std.specs.List.{starts_with}
 use Rattle.fmp_engine.specs.declared.fault.SimFault.{SimFault}
 use Rattle.fmp_engine.specs.declared.fault.SimFault.TheVariants as sim
+use Rattle.fmp_engine.specs.Messages.{sim_message}
+use Rattle.fmp_files.specs.Messages.{failure_message}
 use Rattle.fmp_lex.specs.declared.fault.BuildFault.TheVariants as build
+use Rattle.fmp_lex.specs.Messages.{build_message}
 use Rattle.fmp_recording.specs.declared.faults.RecordingFault.{RecordingFault}
 use Rattle.fmp_recording.specs.declared.faults.RecordingFault.TheVariants as recording
 use Rattle.fmp_looking.specs.declared.exit.ViewExit.{ViewExit}
@@ -12,6 +15,16 @@ use Rattle.fmp_looking.specs.declared.exit.ViewExit.TheVariants.{LastEvents, Pic
 use Rattle.fmp_looking.specs.declared.kinds.Misplaced.TheVariants as misplaced
 use Rattle.fmp_looking.specs.declared.timeline.TimelineFault.{TimelineFault}
 use Rattle.fmp_looking.specs.declared.timeline.TimelineFault.TheVariants as timeline
+
+-- what is said; of a file in a wrong place, of other faults of a recording and of a picture some sentence is
+abbrev pub exit_message : ViewExit → Option (List ℕ)
+exit_message (Sim fault) = Some (sim_message fault)
+exit_message OtherText = Some (codes "SRC is not the task text of the image: their calls differ")
+exit_message (Configuration fault) = Some (build_message fault)
+exit_message LastEvents = Some (codes "recording:1: R1\nit has the last events alone, which cannot be replayed")
+exit_message (Expect text) = Some (string_bytes text)
+exit_message (Failed failure) = Some (failure_message failure)
+exit_message _ = None
 
 -- 1 for a fault of what was read, 2 if the run has no such picture, 3 for a failure or if memory ran out
 abbrev pub status_of : ViewExit → ℕ

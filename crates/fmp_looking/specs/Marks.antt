@@ -1,4 +1,4 @@
--- The places of a task text to which a run may come: its service calls, and its branches.
+-- The service calls and the branches of a task text, to which a run may come.
 use Rattle.std.specs.Prelude.{ℕ, ◌≡◌, ◌+◌, ◌-◌, ◌^◌, ◌<◌, ◌≤◌, ◌==◌, ◌⊎◌, List, [], ◌∷◌, ◌++◌, length, min, take}
 use Rattle.std.specs.Prelude.{Option, Some, None, option_map, slice_get, unwrap_or, if◌then◌else◌}
 use Rattle.fmp_base.specs.declared.words.Keyword.{Keyword}
@@ -45,7 +45,7 @@ abbrev pub column_after : (column : ℕ) → List ℕ → ℕ
 column_after column [] = column
 column_after column (b ∷ bs) = column_after (if b == 10 then 1 else column + 1) bs
 
--- the column of the byte at a place of a text
+-- the column of the byte at a position of a text
 abbrev pub column_of : (text : List ℕ) → (start : ℕ) → ℕ
 column_of text start = column_after 1 (take start text)
 
@@ -61,7 +61,7 @@ one_more n = min (n + 1) (2 ^ 64 - 1)
 abbrev pub at_first : Walk
 at_first = record { bodies = 0; branches = 0; condition = None }
 
--- the mark at a place
+-- the mark at a position
 abbrev pub mark_here : Walk → MarkKind → CallPosition → Mark
 mark_here w k position = record { kind = k; position = position; bodies = w.bodies; branches = w.branches }
 

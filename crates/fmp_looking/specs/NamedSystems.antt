@@ -14,22 +14,22 @@ use Rattle.fmp_lex.specs.Cutting.{Cuts}
 use Rattle.fmp_lex.specs.Faults.{text_max}
 
 -- the name that a token is, if it stands after one that begins a body
-abbrev pub name_here : (behind_head : Bool) → TokenKind → List Name
+abbrev pub name_here : (after_head : Bool) → TokenKind → List Name
 name_here true (kind.Name name) = name ∷ []
 name_here _ _ = []
 
-abbrev pub name_at : (behind_head : Bool) → List Token → (at : ℕ) → List Name
+abbrev pub name_at : (after_head : Bool) → List Token → (at : ℕ) → List Name
 name_at h ts i = unwrap_or (option_map (λ t. name_here h t.kind) (slice_get ts i)) []
 
 -- the names of the bodies that begin in tokens, after one that begins a body or not
-abbrev pub names_behind : (behind_head : Bool) → List Token → List Name
-names_behind h [] = []
-names_behind h (t ∷ ts) = name_here h t.kind ++ names_behind (is_head t.kind) ts
+abbrev pub names_after : (after_head : Bool) → List Token → List Name
+names_after h [] = []
+names_after h (t ∷ ts) = name_here h t.kind ++ names_after (is_head t.kind) ts
 
 -- these are the names of the bodies of a text, by its tokens; of one that is too long to be read they are none
 abbrev pub AreNamesOf : (text : List ℕ) → List Name → Type 0
 AreNamesOf text names =
-    ((length text ≤ text_max) × ((ts : List Token) × Cuts text 0 ts × (names ≡ names_behind false ts)))
+    ((length text ≤ text_max) × ((ts : List Token) × Cuts text 0 ts × (names ≡ names_after false ts)))
     ⊎ ((text_max < length text) × (names ≡ []))
 
 -- an entry by the name of its body

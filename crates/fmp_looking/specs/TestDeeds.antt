@@ -6,13 +6,16 @@ use Rattle.fmp_base.specs.Systems.{tables_of}
 use Rattle.fmp_files.specs.Deeds.{Deed, Does, Says, said, wrote}
 use Rattle.fmp_files.specs.Outside.{Files}
 use Rattle.fmp_files.specs.Prints.{Prints}
+use Rattle.fmp_trials.specs.declared.choices.InterruptRate.{InterruptRate}
 use Rattle.fmp_looking.specs.declared.built_system.BuiltSystem.{BuiltSystem}
 use Rattle.fmp_looking.specs.declared.reporting.FailedTest.{FailedTest}
+use Rattle.fmp_looking.specs.declared.wanted.ImageTest.{ImageTest}
 use Rattle.fmp_looking.specs.declared.wanted.ReadTest.{ReadTest}
 use Rattle.fmp_looking.specs.declared.wanted.Testing.{Testing}
 use Rattle.fmp_looking.specs.Covered.{IsTable, IsTestSeen, IsTracefile, Seen}
 use Rattle.fmp_looking.specs.FilesWritten.{file_written}
 use Rattle.fmp_looking.specs.Judgements.{IsTestReport}
+use Rattle.fmp_looking.specs.Rates.{rate_mistake, rates_named}
 use Rattle.fmp_looking.specs.Tested.{HaveMetText, IsFailedTest, plan_in}
 use Rattle.fmp_looking.specs.TestFiles.{AreApart}
 use Rattle.fmp_looking.specs.TestLines.{lines_said, none_line, seed_line}
@@ -124,14 +127,24 @@ pub record IsTested (r : ReadTest) (before after : Option (List Deed)) (status :
   pub verdict : status ≡ verdict_status found
   pub has : HasTested r found before after
 
--- a test of a system was made with the texts of its files; before that some texts were said
+-- this test of a system is asked for, in which interrupts come at these rates
+pub record IsTestOf (built : BuiltSystem) (testing : Testing) (named : List InterruptRate) (t : ImageTest)
+    : Type 0 where
+  pub image : t.image ≡ built.image
+  pub configured : t.configured ≡ built.configured
+  pub expect : testing.expect ≡ Some t.expect
+  pub rates : t.rates.now ≡ named
+  pub asked : t.testing ≡ testing
+  pub right : rate_mistake testing.tick named ≡ None
+
+-- a test of a system was made with the texts of its files, at the rates that words say; before that some texts were
+-- said
 pub record EndsTest (files : Files) (built : BuiltSystem) (testing : Testing) (before after : Option (List Deed))
     (status : ℕ) : Type 0 where
   pub read : ReadTest
-  pub image : read.test.now.image ≡ built.image
-  pub configured : read.test.now.configured ≡ built.configured
-  pub asked : read.test.now.testing ≡ testing
-  pub expect : testing.expect ≡ Some read.test.now.expect
+  pub rates : List InterruptRate
+  pub named : rates_named (tables_of built.configured.now) testing.rates.now ≡ Some rates
+  pub is_test : IsTestOf built testing rates read.test.now
   pub is_read : IsRead files read
   pub said : Option (List Deed)
   pub says : SaysSome before said

@@ -1,6 +1,5 @@
 -- The calls that are refused in random runs of an image.
 use Rattle.std.specs.Prelude.{ℕ, ◌≡◌, Bool, true, false, List, [], ◌∷◌, Ok, length}
-use Rattle.std.specs.List.{AllByRecursion}
 use Rattle.fmp_base.specs.declared.events.Event.{Event}
 use Rattle.fmp_base.specs.Systems.{tables_of}
 use Rattle.fmp_expect.specs.declared.expectation.Expected.{Expected}
@@ -16,7 +15,7 @@ use Rattle.fmp_frames.specs.CallPositions.{AreCallsOf}
 use Rattle.fmp_frames.specs.Refusals.{refused_calls}
 use Rattle.fmp_looking.specs.declared.wanted.TestTexts.{TestTexts}
 use Rattle.fmp_looking.specs.declared.wanted.ImageTest.{ImageTest}
-use Rattle.fmp_looking.specs.Covered.{IsTestRun}
+use Rattle.fmp_looking.specs.Covered.{AreMadeAfter, IsTestRun}
 use Rattle.fmp_looking.specs.Refused.{refused_lines}
 use Rattle.fmp_replay.specs.Replays.{kernel_after}
 
@@ -37,28 +36,28 @@ answers_after i n known (es ∷ runs) =
     answers_after i n
     (with_answers known (answers_in code_meaning (kernel_after i n []) es (length i.system.tasks))) runs
 
--- the calls of runs of an image, this many, each of which is made so, were answered this
-pub record AreAnswersOf (IsMade : List Event → Type 0) (i : ImageTables) (n count : ℕ) (known : List SiteAnswer)
-    : Type 0 where
+-- the calls of the runs of an image of the seeds from 1 to this one were answered this
+pub record AreAnswersOf (IsMade : (seed : ℕ) → List Event → Type 0) (i : ImageTables) (n last : ℕ)
+    (known : List SiteAnswer) : Type 0 where
   pub runs : List (List Event)
-  pub made : AllByRecursion IsMade runs
-  pub many : length runs ≡ count
+  pub made : AreMadeAfter IsMade 0 runs
+  pub many : length runs ≡ last
   pub answers : known ≡ answers_after i n [] runs
 
 -- a line of this form for each call that is refused in such runs, by where it stands in this text of its bodies in a
 -- file
-pub record AreRefusedLines (IsMade : List Event → Type 0) (written : LineForm) (file src : List ℕ) (i : ImageTables)
-    (n count : ℕ) (out : List ℕ) : Type 0 where
+pub record AreRefusedLines (IsMade : (seed : ℕ) → List Event → Type 0) (written : LineForm) (file src : List ℕ)
+    (i : ImageTables) (n last : ℕ) (out : List ℕ) : Type 0 where
   pub bodies : List (List CallPosition)
   pub calls : AreCallsOf src bodies
   pub answers : List SiteAnswer
-  pub are : AreAnswersOf IsMade i n count answers
+  pub are : AreAnswersOf IsMade i n last answers
   pub text : out ≡ refused_lines written file i.code bodies (refused_calls i.code answers)
 
 -- the same of random runs of a test, which go by the expectations of a text that are not about calls
-pub record AreTestRefusals (t : ImageTest) (texts : TestTexts) (count : ℕ) (out : List ℕ) : Type 0 where
+pub record AreTestRefusals (t : ImageTest) (texts : TestTexts) (last : ℕ) (out : List ℕ) : Type 0 where
   pub expected : List Expected
   pub read : other_sentences_of (tables_of t.configured.now) texts.expectations.now ≡ Ok expected
   pub lines :
       AreRefusedLines (IsTestRun t expected) (form_of t.testing.json) t.testing.src.now texts.src.now t.image.now
-      t.testing.bound count out
+      t.testing.bound last out

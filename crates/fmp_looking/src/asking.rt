@@ -14,7 +14,14 @@ const NOTHING_EXPECTED: &str = "--expect FILE says what runs must do";
 
 /// The message for a word that says nothing of an interrupt.
 const NO_RATE: &str =
-    "--int wants I:N, the number of an interrupt from 1 to 32 and how many events lie between two, as 3:50";
+    "--int wants I:N, an interrupt from 1 to 32 and in how many events it comes once, at least 2, as 3:50";
+
+/// The message for an interrupt that is named twice.
+const INTERRUPT_TWICE: &str = "two of --int name one interrupt";
+
+/// The message for a clock that advances in each event.
+const TICK_EVERY_EVENT: &str =
+    "--every-tick 1 leaves no event to tasks; it may be 0, or 2 to 2^32 - 1";
 
 /// The message for a report that would replace a file that is read.
 const REPORT_OVER_INPUT: &str = "the file of --junit is one of those that are read";
@@ -32,6 +39,10 @@ pub enum TestMistake {
     NothingExpected,
     /// A word says nothing of an interrupt.
     Rate,
+    /// Two words are of one interrupt.
+    InterruptTwice,
+    /// The clock advances in each event.
+    TickEveryEvent,
     /// The file of a report is one of those that are read.
     ReportOverInput,
     /// The file of a tracefile or of a table of coverage is.
@@ -75,6 +86,8 @@ pub fn test_mistake(alloc: Global, mistake: TestMistake) -> Result<Error, AllocE
     let why = match mistake {
         TestMistake::NothingExpected => NOTHING_EXPECTED,
         TestMistake::Rate => NO_RATE,
+        TestMistake::InterruptTwice => INTERRUPT_TWICE,
+        TestMistake::TickEveryEvent => TICK_EVERY_EVENT,
         TestMistake::ReportOverInput => REPORT_OVER_INPUT,
         TestMistake::CoverageOverInput => COVERAGE_OVER_INPUT,
         TestMistake::WrittenTwice => WRITTEN_TWICE,

@@ -50,6 +50,28 @@ struct Laps {
     times: u64,
 }
 
+/// A body goes on from a context by at most n instructions.
+#[derive(Clone, Copy)]
+struct Stretch {
+    from: MachineContext,
+    n: u64,
+}
+
+/// The same of a body that comes back to the context after this many instructions, and again after each time.
+#[derive(Clone, Copy)]
+struct Cycle {
+    from: MachineContext,
+    n: u64,
+    length: u64,
+}
+
+/// What an event did, and the actor that it ran, if it ran one.
+#[derive(Clone, Copy)]
+struct EventRun {
+    actor: Option<Actor<MachineContext>>,
+    effect: Effect,
+}
+
 /// A context of a stretch to which it may come back.
 #[derive(Clone, Copy)]
 struct Lap {
@@ -99,7 +121,6 @@ fn number_at(numbers: &[usize], pc: u16) -> usize
 }
 
 /// Which way a body goes at a branch.
-
 fn step_of(code: NumberedBody<'_>, context: &MachineContext) -> BranchStep
     requires numbers { AreNumbers code.instructions.now code.branches_before.now }
     requires branch { spec.is_branch_at code.instructions.now context.now.pc ≡ true }
@@ -175,32 +196,31 @@ fn add_laps<B: Body<Ctx = MachineContext>>(
     Ok(())
 }
 
-/// Adds the branches of at most n instructions from a context to which the body comes back after each of this many.
+/// Adds the branches of a cycle.
 fn add_cycle<B: Body<Ctx = MachineContext>>(
     alloc: Global,
     body: &B,
     code: NumberedBody<'_>,
-    cycle: u64,
-    n: u64,
-    context: MachineContext,
+    cycle: Cycle,
     ways: &mut BranchWays,
 ) -> Result<(), AllocError>
     requires entry { B.has_entry body.now code.number }
-    requires context { B.is_context body.now code.number context }
+    requires context { B.is_context body.now code.number cycle.from }
     requires numbers { AreNumbers code.instructions.now code.branches_before.now }
-    requires some { 0 < cycle }
-    requires cycle { walk (B.meaning body.now) code.number cycle context ≡ Some context }
+    requires some { 0 < cycle.length }
+    requires cycle { walk (B.meaning body.now) code.number cycle.length cycle.from ≡ Some cycle.from }
     ensures { OnOk result (IsWithSteps 1 ways.old
-        (spec.stretch_steps (B.meaning body.now) code.entry.instructions.now code.entry.number n context) ways.new) }
+        (spec.stretch_steps (B.meaning body.now) code.entry.instructions.now code.entry.number cycle.n cycle.from)
+        ways.new) }
 {
     let whole = Laps {
-        from: context,
-        n: cycle,
-        times: n / cycle,
+        from: cycle.from,
+        n: cycle.length,
+        times: cycle.n / cycle.length,
     };
     let rest = Laps {
-        from: context,
-        n: n % cycle,
+        from: cycle.from,
+        n: cycle.n % cycle.length,
         times: 1,
     };
     add_laps(alloc, body, code, whole, ways)?;
@@ -249,36 +269,40 @@ impl Lap {
     }
 }
 
-/// Adds the branches of a stretch of at most n instructions. One that goes round in a cycle is not gone through to its
-/// end.
+/// Adds the branches of a stretch. One that goes round in a cycle is not gone through to its end.
 fn add_stretch<B: Body<Ctx = MachineContext>>(
     alloc: Global,
     body: &B,
     code: NumberedBody<'_>,
-    n: u64,
-    context: MachineContext,
+    stretch: Stretch,
     ways: &mut BranchWays,
 ) -> Result<(), AllocError>
     requires entry { B.has_entry body.now code.number }
-    requires context { B.is_context body.now code.number context }
+    requires context { B.is_context body.now code.number stretch.from }
     requires numbers { AreNumbers code.instructions.now code.branches_before.now }
     ensures { OnOk result (IsWithSteps 1 ways.old
-        (spec.stretch_steps (B.meaning body.now) code.entry.instructions.now code.entry.number n context) ways.new) }
+        (spec.stretch_steps (B.meaning body.now) code.entry.instructions.now code.entry.number stretch.n stretch.from)
+        ways.new) }
 {
-    let mut here = context;
+    let mut here = stretch.from;
     let mut lap = Lap {
-        from: context,
+        from: stretch.from,
         before: 0,
         length: 1,
     };
-    for turn in 0..n {
+    for turn in 0..stretch.n {
         add_step(alloc, code, &here, 1, ways)?;
         if !goes_on(body, code.number, &mut here) {
             return Ok(());
         }
         let made = turn + 1;
         if is_same(&here, &lap.from) {
-            return add_cycle(alloc, body, code, made - lap.before, n - made, here, ways);
+            let cycle = Cycle {
+                from: here,
+                n: stretch.n - made,
+                length: made - lap.before,
+            };
+            return add_cycle(alloc, body, code, cycle, ways);
         }
         lap = lap.at(&here, made);
     }
@@ -295,27 +319,31 @@ fn instructions_of(code: &Code, entry: u8) -> &[Instruction]
     }
 }
 
-/// Adds the branches of an actor up to its next call within a bound.
+/// Adds the branches of an actor of a kernel up to its next call within the bound.
 fn add_actor<B: Body<Ctx = MachineContext>>(
     alloc: Global,
-    body: &B,
+    kernel: &Kernel<B>,
     code: NumberedCode<'_>,
-    n: u64,
     actor: &Actor<MachineContext>,
     ways: &mut BranchWays,
 ) -> Result<(), AllocError>
-    requires entry { B.has_entry body.now actor.now.entry }
-    requires context { B.is_context body.now actor.now.entry actor.now.context }
+    requires entry { B.has_entry kernel.now.body actor.now.entry }
+    requires context { B.is_context kernel.now.body actor.now.entry actor.now.context }
     requires numbers { AreOfCode (code_tables code.code.now) code.numbers.now }
     ensures { OnOk result (IsWithSteps 1 ways.old
-        (spec.actor_steps (B.meaning body.now) (code_tables code.entry.code.now) n (Some actor.now)) ways.new) }
+        (spec.actor_steps (B.meaning kernel.now.body) (code_tables code.entry.code.now) kernel.now.bound
+        (Some actor.now)) ways.new) }
 {
     let numbered = NumberedBody {
         number: actor.entry,
         instructions: instructions_of(code.code, actor.entry),
         branches_before: code.numbers.body(actor.entry),
     };
-    add_stretch(alloc, body, numbered, n, actor.context, ways)
+    let stretch = Stretch {
+        from: actor.context,
+        n: kernel.bound(),
+    };
+    add_stretch(alloc, kernel.body(), numbered, stretch, ways)
 }
 
 /// The actor that an event runs on a kernel, if it runs one.
@@ -333,27 +361,24 @@ fn event_actor<B: Body<Ctx = MachineContext>>(
     }
 }
 
-/// Adds the branches through which an event went that did this, where it ran this actor.
+/// Adds the branches through which an event went.
 fn add_event<B: Body<Ctx = MachineContext>>(
     alloc: Global,
     kernel: &Kernel<B>,
     code: NumberedCode<'_>,
-    actor: Option<Actor<MachineContext>>,
-    effect: Effect,
+    run: EventRun,
     ways: &mut BranchWays,
 ) -> Result<(), AllocError>
-    requires entry { IfSome actor (λ a. B.has_entry kernel.now.body a.entry) }
-    requires context { IfSome actor (λ a. B.is_context kernel.now.body a.entry a.context) }
+    requires entry { IfSome run.actor (λ a. B.has_entry kernel.now.body a.entry) }
+    requires context { IfSome run.actor (λ a. B.is_context kernel.now.body a.entry a.context) }
     requires numbers { AreOfCode (code_tables code.code.now) code.numbers.now }
     ensures { OnOk result (IsWithSteps 1 ways.old
         (spec.if_taken (spec.actor_steps (B.meaning kernel.now.body) (code_tables code.entry.code.now)
-        kernel.now.bound actor) effect) ways.new) }
+        kernel.now.bound run.actor) run.effect) ways.new) }
 {
-    match (actor, effect) {
+    match (run.actor, run.effect) {
         (None, _) | (_, Effect::Nothing) => Ok(()),
-        (Some(actor), Effect::Done | Effect::Kept) => {
-            add_actor(alloc, kernel.body(), code, kernel.bound(), &actor, ways)
-        }
+        (Some(actor), Effect::Done | Effect::Kept) => add_actor(alloc, kernel, code, &actor, ways),
     }
 }
 
@@ -373,7 +398,7 @@ fn add_events<B: Body<Ctx = MachineContext>>(
     for e in events {
         let actor = event_actor(kernel, *e);
         let effect = e.take(kernel);
-        add_event(alloc, kernel, code, actor, effect, ways)?;
+        add_event(alloc, kernel, code, EventRun { actor, effect }, ways)?;
     }
     Ok(())
 }

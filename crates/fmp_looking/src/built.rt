@@ -93,17 +93,17 @@ fn built(alloc: Global, cfg: &[u8], src: &[u8]) -> Result<Image, NoTrace>
 /// The trace of a run of an image over events, whose calls stand at these positions. `AllocError` if memory runs out.
 fn image_trace(
     alloc: Global,
-    form: Form,
+    run: Running,
     positions: &[Option<CallPosition>],
     image: &Image,
     events: &[Event],
-    n: u64,
 ) -> Result<Vec<u8>, AllocError>
     requires few { length events.now ≤ 2 ^ 20 }
-    ensures { IfOk result (λ out. IsTrace form image.now.system positions.now code_meaning (reaction_of code_meaning)
-        (kernel_after image.now n []) events.now out.items) }
+    ensures { IfOk result (λ out. IsTrace run.form image.now.system positions.now code_meaning
+        (reaction_of code_meaning) (kernel_after image.now run.bound []) events.now out.items) }
 {
-    trace_of(alloc, form, positions, &OpenImage::new(image, n), events)
+    let opened = OpenImage::new(image, run.bound);
+    trace_of(alloc, run.form, positions, &opened, events)
 }
 
 /// The events that a drive of an image takes, and how it ended.
@@ -163,16 +163,16 @@ fn shown_positions(
     src: &[u8],
     events: &[Event],
     run: Running,
-    bound: u64,
 ) -> Result<Vec<Option<CallPosition>>, AllocError>
     requires few { length events.now ≤ 2 ^ 20 }
-    ensures { IfOk result (λ made. AreShown run.form run.positions src.now image.now bound events.now made.items) }
+    ensures { IfOk result (λ made. AreShown run.form run.positions src.now image.now run.bound events.now
+        made.items) }
 {
     match run.form {
-        Form::Json => positions_by_text(alloc, image, src, events, bound),
+        Form::Json => positions_by_text(alloc, image, src, events, run.bound),
         Form::Text => {
             if run.positions {
-                positions_by_text(alloc, image, src, events, bound)
+                positions_by_text(alloc, image, src, events, run.bound)
             } else {
                 Ok(Vec::new(alloc))
             }
@@ -192,17 +192,12 @@ fn printed(
     ensures { run.calls ≡ false
         → IfOk result (λ out. IsRunTrace image.now src.now run events.now out.items) }
 {
-    let bound = run.bound;
     if run.calls {
-        return output_of(
-            alloc,
-            &OpenImage::new(image, bound),
-            events,
-            RunOutput::Calls,
-        );
+        let opened = OpenImage::new(image, run.bound);
+        return output_of(alloc, &opened, events, RunOutput::Calls);
     }
-    let positions = shown_positions(alloc, image, src, events, run, bound)?;
-    image_trace(alloc, run.form, &positions, image, events, bound)
+    let positions = shown_positions(alloc, image, src, events, run)?;
+    image_trace(alloc, run, &positions, image, events)
 }
 
 /// The tracefile of lcov of what a run of an image comes to in this text of its bodies, if it is asked for; else empty.

@@ -4,8 +4,8 @@ ghost use Rattle.std.specs.List.{list_any};
 ghost use Rattle.fmp_looking.specs.Coverage as spec;
 ghost use Rattle.fmp_looking.specs.Coverage.{AreLinesOf};
 
-use fmp_frames::CallPosition;
-use fmp_lex::{TextFault, TokenKind, Tokens, tokens};
+use fmp_frames::{CallPosition, is_service_at, line_at};
+use fmp_lex::{TextFault, Tokens, tokens};
 use std::alloc::{AllocError, Global};
 
 /// How often the calls in a line of a text were made.
@@ -40,26 +40,6 @@ fn add_line(lines: &mut Vec<u32>, line: u32) -> Result<(), AllocError>
     }
     lines.push(line)?;
     Ok(())
-}
-
-/// Whether the token at a place names a service call.
-fn is_service_at(tokens: &Tokens<'_>, at: usize) -> bool
-    ensures { result ≡ spec.is_service_at tokens.now at }
-{
-    match tokens.kind(at) {
-        Some(TokenKind::Service(_)) => true,
-        _ => false,
-    }
-}
-
-/// The line of the token at a place; 0 where there is none.
-fn line_at(tokens: &Tokens<'_>, at: usize) -> u32
-    ensures { result ≡ spec.line_at tokens.now at }
-{
-    match tokens.position(at) {
-        Some(position) => position.line,
-        None => 0,
-    }
 }
 
 /// Adds the line of the token at a place, if it names a service call.

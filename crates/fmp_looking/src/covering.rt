@@ -115,30 +115,18 @@ impl Sightings {
         }
     }
 
-    /// What is seen in a run of an image too, whose calls stand at these positions. `AllocError` if memory runs out.
-    pub fn with_run(
-        self,
-        alloc: Global,
-        image: &Image,
-        n: u64,
-        positions: &CallPositions,
-        events: &[Event],
-    ) -> Result<Sightings, AllocError>
-        requires few { length events.now ≤ 2 ^ 20 }
-        ensures { IfOk result (λ s. seen_at positions.now s
-            ≡ after_run image.now n (seen_at positions.now self) events.now) }
+    /// What is seen in a run too. `AllocError` if memory runs out.
+    pub fn with_run(self, alloc: Global, run: PositionedRun<'_>) -> Result<Sightings, AllocError>
+        requires few { length run.events.now ≤ 2 ^ 20 }
+        ensures { IfOk result (λ s. seen_at run.entry.positions.now s
+            ≡ after_run run.entry.image.now run.entry.bound (seen_at run.entry.positions.now self)
+            run.entry.events.now) }
     {
         let Sightings {
             mut made,
             calls,
             mut ways,
         } = self;
-        let run = PositionedRun {
-            image,
-            bound: n,
-            positions,
-            events,
-        };
         add_made(alloc, run, &mut made)?;
         let calls = calls_over(alloc, run, calls)?;
         add_steps(alloc, run, &mut ways)?;
@@ -214,8 +202,14 @@ fn seen_of_run(
     ensures { IfOk result (λ s. IsSeen src.now image.now n (events.now ∷ []) (seen_of s)) }
 {
     let positions = CallPositions::new(alloc, src)?;
+    let run = PositionedRun {
+        image,
+        bound: n,
+        positions: &positions,
+        events,
+    };
     let none = Sightings::none(alloc);
-    let seen = none.with_run(alloc, image, n, &positions, events)?;
+    let seen = none.with_run(alloc, run)?;
     Ok(RunsSeen::new(positions, seen))
 }
 

@@ -42,6 +42,10 @@ impl From<Failure> for ViewExit {
 }
 
 impl fmt::Display for ViewExit {
+    ghost use Rattle.fmp_looking.specs.Exits.{exit_message};
+
+    ghost output = { λ exit. exit_message exit };
+
     fn fmt<W: fmt::Write>(&self, f: &mut fmt::Formatter<W>) -> fmt::Result {
         match self {
             ViewExit::Sim(fault) => write!(f, "{fault}"),

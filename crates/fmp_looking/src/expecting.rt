@@ -103,12 +103,16 @@ pub fn event_text<O: Opened, T: Coming<O::Bodies>>(
 }
 
 /// Where an expectation stands that fails, and in which event it does.
-fn place_text(alloc: Global, name: &str, broken: BrokenExpectation) -> Result<Vec<u8>, AllocError>
+fn position_text(
+    alloc: Global,
+    name: &str,
+    broken: BrokenExpectation,
+) -> Result<Vec<u8>, AllocError>
     ensures { IfOk result (λ out. out.items ≡ name.now ++ (codes ":" ++ (decimal broken.line ++ (codes ": event "
         ++ (decimal broken.event ++ codes ": "))))) }
 {
-    let place = format!(in alloc; "{name}:{}: event {}: ", broken.line, broken.event)?;
-    Ok(place.into_bytes())
+    let position = format!(in alloc; "{name}:{}: event {}: ", broken.line, broken.event)?;
+    Ok(position.into_bytes())
 }
 
 /// The same, and its line.
@@ -120,7 +124,7 @@ fn broken_line(
 ) -> Result<Vec<u8>, AllocError>
     ensures { IfOk result (λ out. out.items ≡ broken_head name.now text.now broken) }
 {
-    let mut out = place_text(alloc, name, broken)?;
+    let mut out = position_text(alloc, name, broken)?;
     out.extend_from_slice(line_at(text, broken.line))?;
     out.push(b'\n')?;
     Ok(out)
@@ -141,21 +145,20 @@ fn broken_text(
     Ok(out)
 }
 
-/// What is printed of a run of a system that does not meet a text. `AllocError` if memory runs out.
+/// What is printed of a run of a system that does not meet these expectations. `AllocError` if memory runs out.
 pub fn report_of<O: Opened, T: Coming<O::Bodies>>(
     alloc: Global,
     opened: &O,
     events: &[T],
-    name: &str,
-    text: &[u8],
+    expectations: &Expectations<'_>,
     broken: BrokenExpectation,
 ) -> Result<Vec<u8>, AllocError>
     requires { length events.now ≤ 2 ^ 31 }
-    ensures { IfOk result (λ out.
-        ShowsBroken T.reaction (O.start opened.now) events.now name.now text.now broken out.items) }
+    ensures { IfOk result (λ out. ShowsBroken T.reaction (O.start opened.now) events.now expectations.now.name.now
+        expectations.now.text.now broken out.items) }
 {
     let event = event_text(alloc, opened, events, broken.event)?;
-    broken_text(alloc, name, text, broken, &event)
+    broken_text(alloc, expectations.name, expectations.text, broken, &event)
 }
 
 /// Appends that the expectation of the line of this number of a text says nothing of a run.
@@ -223,7 +226,7 @@ pub fn failure_text<O: Opened, T: Coming<O::Bodies>>(
     let Expectations { name, text, strict } = *expectations;
     match verdict.broken {
         Some(broken) => {
-            let text = report_of(alloc, opened, events, name, text, broken)?;
+            let text = report_of(alloc, opened, events, expectations, broken)?;
             Ok(Some(text))
         }
         None if strict => empty_text(alloc, (name, text), &verdict.empty),

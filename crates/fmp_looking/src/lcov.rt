@@ -1,12 +1,12 @@
 //! Tracefiles of lcov.
-ghost use Rattle.std.specs.Prelude.{◌≡◌, ◌++◌, IfOk, OnOk, count_by, decimal};
+ghost use Rattle.std.specs.Prelude.{◌≡◌, ◌++◌, IfOk, OnOk, count_by};
 ghost use Rattle.std.specs.List.{flat_map};
 ghost use Rattle.fmp_looking.specs.Coverage as spec;
 
 use crate::coverage::LineCount;
 use crate::tables::BranchCount;
 use fmp_frames::CallPosition;
-use itoa::Buffer;
+use fmp_json::{append, append_number};
 use std::alloc::{AllocError, Global};
 
 /// A way of a branch.
@@ -19,20 +19,6 @@ struct Way {
     times: u64,
     /// Whether the branch was reached.
     is_reached: bool,
-}
-
-/// Appends bytes.
-fn append(text: &[u8], out: &mut Vec<u8>) -> Result<(), AllocError>
-    ensures { OnOk result (out.new.items ≡ out.old.items ++ text.now) }
-{
-    out.extend_from_slice(text)
-}
-
-/// Appends a number in decimal digits.
-fn append_number(number: u64, out: &mut Vec<u8>) -> Result<(), AllocError>
-    ensures { OnOk result (out.new.items ≡ out.old.items ++ decimal number) }
-{
-    append(Buffer::new().format(number).as_bytes(), out)
 }
 
 /// Appends how often a line was reached.

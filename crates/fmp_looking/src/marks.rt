@@ -1,4 +1,4 @@
-//! The places of a task text that a run may reach.
+//! The calls and branches of a task text, which a run may reach.
 ghost use Rattle.std.specs.Prelude.{◌≡◌, ◌≤◌, ◌++◌, ◌^◌, IfOk, OnOk, drop, length, take};
 ghost use Rattle.fmp_looking.specs.Marks as spec;
 ghost use Rattle.fmp_looking.specs.Marks.{AreMarksOf};
@@ -29,7 +29,7 @@ pub enum MarkKind {
     Branch(BranchKind),
 }
 
-/// A place of a task text that a run may reach.
+/// A call or a branch of a task text, which a run may reach.
 #[derive(Clone, Copy)]
 pub struct Mark {
     pub kind: MarkKind,
@@ -41,7 +41,7 @@ pub struct Mark {
     pub branches: usize,
 }
 
-/// The column of the byte at a place of a text, from 1 and counted in bytes.
+/// The column of the byte at a position of a text, from 1 and counted in bytes.
 fn column_of(text: &[u8], start: usize) -> usize
     requires { length text.now ≤ 2 ^ 20 }
     ensures { result ≡ spec.column_of text.now start }

@@ -1,26 +1,12 @@
 //! The system of an image, whose handlers of interrupts have the names of a text for their bodies.
 ghost use Rattle.std.specs.Prelude.{◌≡◌, ◌++◌, IfOk, OnOk, false, map};
 ghost use Rattle.fmp_base.specs.Systems.{tables_of};
-ghost use Rattle.fmp_frames.specs.CallPositions.{head_at};
 ghost use Rattle.fmp_looking.specs.NamedSystems as spec;
 
-use crate::walking::{Piece, piece_of};
 use fmp_base::{Entry, InterruptConfig, Name, System};
+use fmp_frames::begins_at;
 use fmp_lex::{TextFault, TokenKind, Tokens, tokens};
 use std::alloc::{AllocError, Global};
-
-/// Whether the token at a place begins a body.
-fn begins_at(tokens: &Tokens<'_>, at: usize) -> bool
-    ensures { result ≡ head_at tokens.now at }
-{
-    match tokens.kind(at) {
-        Some(kind) => match piece_of(kind) {
-            Piece::Head => true,
-            _ => false,
-        },
-        None => false,
-    }
-}
 
 /// Adds the name that a token is, if it stands after one that begins a body.
 fn add_name(kind: TokenKind, after_head: bool, names: &mut Vec<Name>) -> Result<(), AllocError>
@@ -56,7 +42,7 @@ fn add_name_at(
 
 /// The names of the bodies that begin in tokens.
 fn names_in(alloc: Global, tokens: &Tokens<'_>) -> Result<Vec<Name>, AllocError>
-    ensures { IfOk result (λ names. names.items ≡ spec.names_behind false tokens.now) }
+    ensures { IfOk result (λ names. names.items ≡ spec.names_after false tokens.now) }
 {
     let mut names = Vec::new(alloc);
     let mut after_head = false;

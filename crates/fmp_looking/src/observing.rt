@@ -19,7 +19,7 @@ pub enum Outcome {
     Answered(Er),
 }
 
-/// Something is seen of the call at a place.
+/// Something is seen of the call at a position.
 #[derive(Clone, Copy)]
 pub struct CallSeen {
     pub position: CallPosition,

@@ -1,12 +1,13 @@
-//! How often interrupts come.
-ghost use Rattle.std.specs.Prelude.{◌≡◌, IfOk, MatchOption, None, Some, nat_eq, option_map};
-ghost use Rattle.std.specs.List.{list_any};
+//! How often the clock advances and interrupts come in random runs.
+ghost use Rattle.std.specs.Prelude.{◌≡◌, IfOk, MatchOption, None, Some, count_by, option_map};
 ghost use Rattle.fmp_base.specs.Systems.{tables_of};
 ghost use Rattle.fmp_looking.specs.Rates as spec;
 ghost use Rattle.fmp_looking.specs.TestDeeds.{SaysSome};
 
+use crate::asking::TestMistake;
 use fmp_base::System;
 use fmp_files::Outside;
+use fmp_frames::is_handled;
 use fmp_trials::InterruptRate;
 use std::alloc::{AllocError, Global};
 
@@ -35,7 +36,8 @@ fn events_named(text: &str) -> Option<u32>
     text.parse::<u32>().ok()
 }
 
-/// How often an interrupt comes, by a word as `3:50`; none if the word says nothing of the kind.
+/// How often an interrupt comes, by a word as `3:50`: once in two events or more; none if the word says nothing of the
+/// kind.
 #[tactic(auto, unfolding(crate::specs::Rates::rate_named))]
 fn rate_of(word: &str) -> Option<InterruptRate>
     ensures { result ≡ spec.rate_named word.now }
@@ -43,7 +45,7 @@ fn rate_of(word: &str) -> Option<InterruptRate>
     let (interrupt, every) = parts_at_colon(word)?;
     let interrupt = interrupt_named(interrupt)?;
     let every = events_named(every)?;
-    if interrupt == 0 || interrupt > 32 || every == 0 {
+    if interrupt == 0 || interrupt > 32 || every < 2 {
         return None;
     }
     Some(InterruptRate { interrupt, every })
@@ -93,11 +95,46 @@ pub fn rates_of(
     each_rate(alloc, words)
 }
 
-/// Whether the interrupt of this number has a handler.
-fn is_handled(sys: &System, number: u8) -> bool
-    ensures { result ≡ list_any (λ config. nat_eq config.number number) sys.now.interrupts.items }
+/// Whether a rate is of this interrupt.
+fn is_of(interrupt: u8, rate: &InterruptRate) -> bool
+    ensures { result ≡ spec.is_of interrupt rate.now }
 {
-    sys.interrupts.iter().any(|config| config.number == number)
+    rate.interrupt == interrupt
+}
+
+/// How many of these rates are of an interrupt.
+fn count_of(rates: &[InterruptRate], interrupt: u8) -> usize
+    ensures { result ≡ count_by (spec.is_of interrupt) rates.now }
+{
+    rates.iter().filter(|rate| is_of(interrupt, *rate)).count()
+}
+
+/// Whether several of these rates are of the interrupt of this one.
+fn is_twice(rates: &[InterruptRate], rate: &InterruptRate) -> bool
+    ensures { result ≡ spec.is_twice rates.now rate.now }
+{
+    count_of(rates, rate.interrupt) > 1
+}
+
+/// Whether two of these rates are of one interrupt.
+fn names_twice(rates: &[InterruptRate]) -> bool
+    ensures { result ≡ spec.names_twice rates.now }
+{
+    rates.iter().any(|rate| is_twice(rates, rate))
+}
+
+/// What is wrong with a clock that advances once in this many events, or with these rates of interrupts, if something
+/// is. A clock that advances in each event leaves none to tasks.
+pub fn rate_mistake(tick: u32, rates: &[InterruptRate]) -> Option<TestMistake>
+    ensures { result ≡ spec.rate_mistake tick rates.now }
+{
+    if tick == 1 {
+        return Some(TestMistake::TickEveryEvent);
+    }
+    if names_twice(rates) {
+        return Some(TestMistake::InterruptTwice);
+    }
+    None
 }
 
 /// Says that the interrupt of this rate has no handler, if it has none.

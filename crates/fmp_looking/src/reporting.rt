@@ -82,16 +82,9 @@ fn printed_test(
         (kernel_after opened.now.image.now opened.now.bound []) trial.run.steps.items expectations.now.name.now
         expectations.now.text.now trial.run.broken test.report.items) }
 {
-    let Expectations { name, text, .. } = *expectations;
     let steps = printed_steps(alloc, &trial.run.steps)?;
-    let report = report_of(
-        alloc,
-        opened,
-        &trial.run.steps,
-        name,
-        text,
-        trial.run.broken,
-    )?;
+    let events = &trial.run.steps;
+    let report = report_of(alloc, opened, events, expectations, trial.run.broken)?;
     Ok(FailedTest {
         trial,
         steps,
@@ -130,11 +123,10 @@ pub fn plan_of<'a>(test: &ImageTest<'a>) -> RunPlan<'a>
     }
 }
 
-/// The first of the random runs of an image that fails what is expected, made shorter, by this many threads.
+/// The first of the random runs of an image that fails what is expected, made shorter.
 fn found_by<R: Threads + Sync>(
     alloc: Global,
     rt: &R,
-    jobs: u32,
     trials: &Trials<'_>,
     seeds: u32,
 ) -> Result<Option<FailedTrial>, AllocError>
@@ -143,10 +135,10 @@ fn found_by<R: Threads + Sync>(
     ensures met { any_of_end trials.now.expected.now ≡ false → IfOk result (λ found. IfNone found
         (AllHaveMet code_meaning breaks_by (subject_in trials.now) trials.now.plan 0 seeds)) }
 {
-    if jobs <= 1 {
+    if trials.jobs <= 1 {
         return failed_trial_of(alloc, trials, seeds);
     }
-    failed_trial_beside(alloc, rt, jobs, trials, seeds)
+    failed_trial_beside(alloc, rt, trials, seeds)
 }
 
 /// The first of the random runs of a test that fails one of these expectations, or of these sentences about calls.
@@ -173,10 +165,9 @@ fn first_failed<R: Threads + Sync>(
         expected,
         judge: &judge,
         plan: plan_of(test),
+        jobs: test.testing.jobs,
     };
-    found_by(alloc, rt, test.testing.jobs, &trials, test.testing.seeds).map_err(|error| memory(
-        error,
-    ))
+    found_by(alloc, rt, &trials, test.testing.seeds).map_err(|error| memory(error))
 }
 
 /// Makes the random runs of a test: the first that fails one of the expectations of a text. Where none does, all runs

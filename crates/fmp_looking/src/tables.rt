@@ -1,5 +1,5 @@
 //! How often the calls of a text were made and what they were answered, and which ways its branches went.
-ghost use Rattle.std.specs.Prelude.{◌≡◌, ◌++◌, IfOk, OnOk, count_by, decimal};
+ghost use Rattle.std.specs.Prelude.{◌≡◌, ◌++◌, IfOk, OnOk, count_by};
 ghost use Rattle.std.specs.List.{flat_map};
 ghost use Rattle.fmp_frames.specs.Answers.{is_same_code as is_same};
 ghost use Rattle.fmp_looking.specs.Tables as spec;
@@ -10,7 +10,7 @@ use crate::observing::{CallSeen, Outcome};
 use crate::ways::BranchWays;
 use fmp_base::Er;
 use fmp_frames::CallPosition;
-use itoa::Buffer;
+use fmp_json::{append, append_number};
 use std::alloc::{AllocError, Global};
 
 /// How often a branch went each way.
@@ -44,7 +44,7 @@ fn is_at(position: CallPosition, other: CallPosition) -> bool
 }
 
 /// Whether two codes are one.
-fn is_same_code(a: Er, b: Er) -> bool
+pub fn is_same_code(a: Er, b: Er) -> bool
     ensures { result ≡ is_same a b }
 {
     a == b
@@ -112,18 +112,6 @@ fn times_gone(ways: &BranchWays, mark: &Mark, way: bool) -> u64
         return 0;
     }
     ways.times(mark.bodies - 1, mark.branches, way)
-}
-
-fn append(text: &[u8], out: &mut Vec<u8>) -> Result<(), AllocError>
-    ensures { OnOk result (out.new.items ≡ out.old.items ++ text.now) }
-{
-    out.extend_from_slice(text)
-}
-
-fn append_number(number: u64, out: &mut Vec<u8>) -> Result<(), AllocError>
-    ensures { OnOk result (out.new.items ≡ out.old.items ++ decimal number) }
-{
-    append(Buffer::new().format(number).as_bytes(), out)
 }
 
 /// Appends how often something was so.

@@ -47,8 +47,9 @@ fn seen_by<R: Threads + Sync>(
         expected: &expected,
         judge: &judge,
         plan: plan_of(test),
+        jobs: test.testing.jobs,
     };
-    match seen_of_trials(alloc, rt, test.testing.jobs, &trials, texts.src, runs) {
+    match seen_of_trials(alloc, rt, &trials, texts.src, runs) {
         Ok(seen) => Ok(seen),
         Err(error) => Err(memory(error)),
     }

@@ -21,11 +21,11 @@ const JOBS: &str =
 
 /// How often the clock advances.
 const TICKS: &str =
-    "The clock advances once in N events on average, and where all are idle; at 0 only there";
+    "The clock advances once in N events on average, 2 to 2^32 - 1, and where all are idle; at 0 only there";
 
 /// How often an interrupt comes.
 const INT: &str =
-    "Interrupt I comes once in N events on average; it may be given for each interrupt.
+    "Interrupt I comes once in N events on average, 2 to 2^32 - 1; it may be given once for each interrupt.
 Without it each interrupt that has a handler comes once in 50 events";
 
 /// What a tracefile is.

@@ -1,6 +1,6 @@
 //! The calls that are refused in the random runs of `test`.
 ghost use Rattle.std.specs.Prelude.{◌≡◌, IfOk, OnOk};
-ghost use Rattle.fmp_frames.specs.Answers.{is_answer, is_same_code as is_same, was_answered, with_answer};
+ghost use Rattle.fmp_frames.specs.Answers.{is_answer, was_answered, with_answer};
 ghost use Rattle.fmp_looking.specs.TestRefusals as spec;
 ghost use Rattle.fmp_looking.specs.TestRefusals.{AreAnswersOf, AreRefusedLines, AreTestRefusals, with_answers};
 ghost use Rattle.fmp_looking.specs.Covered.{IsRunOf};
@@ -12,19 +12,12 @@ use crate::expecting::other_expected;
 use crate::open_image::OpenImage;
 use crate::refused::{NamedText, answers_over, lines_of, refused_among};
 use crate::reporting::plan_of;
+use crate::tables::is_same_code;
 use crate::trying::{ImageBench, Trials, bench_of};
 use crate::wanted::{ImageTest, TestTexts};
-use fmp_base::Er;
 use fmp_frames::{CallPositions, CodePositions, LineForm, SiteAnswer};
 use fmp_trials::random_steps;
 use std::alloc::{AllocError, Global};
-
-/// Whether two codes are one.
-fn is_same_code(a: Er, b: Er) -> bool
-    ensures { result ≡ is_same a b }
-{
-    a == b
-}
 
 /// Whether two answers are one.
 fn is_same_answer(one: SiteAnswer, other: SiteAnswer) -> bool
@@ -147,6 +140,7 @@ pub fn test_refusals(
         expected: &expected,
         judge: &judge,
         plan: plan_of(test),
+        jobs: test.testing.jobs,
     };
     let source = NamedText {
         name: test.testing.src,

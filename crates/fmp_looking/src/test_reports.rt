@@ -1,7 +1,10 @@
 //! Reports of random runs in the XML of JUnit.
-ghost use Rattle.std.specs.Prelude.{◌≡◌, ◌++◌, IfOk, OnOk, false, map, option_map};
+ghost use Rattle.std.specs.Prelude.{ℕ, ◌≡◌, ◌++◌, ◌∷◌, [], IfErr, IfOk, List, OnOk, false, map, option_map};
 ghost use Rattle.fmp_base.specs.Systems.{tables_of};
+ghost use Rattle.fmp_files.specs.Deeds.{Does, wrote};
 ghost use Rattle.fmp_looking.specs.Judgements as spec;
+ghost use Rattle.fmp_looking.specs.Judgements.{IsTestReport};
+ghost use Rattle.fmp_looking.specs.TestDeeds.{IsRefusal, Reports};
 
 use crate::call_sentences::call_sentences_in;
 use crate::exit::{ViewExit, memory};
@@ -9,8 +12,11 @@ use crate::expecting::{Expectations, other_expected};
 use crate::judged_cases::{JudgedCase, report_of};
 use crate::judging::Judgement;
 use crate::reporting::FailedTest;
+use crate::test_outputs::{end_test, write_to};
+use crate::wanted::ReadTest;
 use fmp_base::System;
 use fmp_expect::{BrokenExpectation, CallSentence, Expected, line_at};
+use fmp_files::Outside;
 use std::alloc::{AllocError, Global};
 
 /// What is broken, if it stands in this line.
@@ -167,7 +173,7 @@ fn lines_in(alloc: Global, sys: &System, text: &[u8]) -> Result<Vec<usize>, View
 /// A report of random runs of a system that were judged by the expectations of a text, of which this one fails, if one
 /// does: only the expectation that it breaks fails. The reasons to give none are a fault of the text, and that memory
 /// runs out.
-pub fn test_report(
+fn test_report(
     alloc: Global,
     sys: &System,
     expectations: &Expectations<'_>,
@@ -178,4 +184,69 @@ pub fn test_report(
 {
     let lines = lines_in(alloc, sys, expectations.text)?;
     report_with(alloc, expectations, &lines, failed).map_err(|error| memory(error))
+}
+
+/// The expectations of a text in the file of this name.
+pub fn expectations_of<'a>(name: &'a str, text: &'a [u8]) -> Expectations<'a>
+    ensures name { result.name.now ≡ name.now }
+    ensures text { result.text.now ≡ text.now }
+{
+    Expectations {
+        name,
+        text,
+        strict: false,
+    }
+}
+
+/// The report of a test, of whose runs this one fails, if one does.
+fn report_by(
+    alloc: Global,
+    read: &ReadTest<'_>,
+    failed: Option<&FailedTest>,
+) -> Result<Vec<u8>, ViewExit>
+    ensures { IfOk result (λ out. IsTestReport (tables_of read.now.test.now.configured.now) read.now.test.now.expect.now
+        read.now.texts.expectations.now (option_map (λ f. f.now.trial.run.broken) failed.entry) out.items) }
+{
+    let ReadTest { test, texts } = *read;
+    let expectations = expectations_of(test.expect, texts.expectations);
+    test_report(alloc, test.configured, &expectations, failed)
+}
+
+/// Writes the report of a test to this file. The error is the status that the program ends with.
+fn write_report_to<O: Outside>(
+    alloc: Global,
+    outside: &mut O,
+    out: &str,
+    read: &ReadTest<'_>,
+    failed: Option<&FailedTest>,
+) -> Result<(), u8>
+    ensures ok { OnOk result ((report : List ℕ)
+        × IsTestReport (tables_of read.now.test.now.configured.now) read.now.test.now.expect.now
+        read.now.texts.expectations.now (option_map (λ f. f.now.trial.run.broken) failed.entry) report
+        × Does (O.done outside.old) (wrote out.now report ∷ []) (O.done outside.new)) }
+    ensures err { IfErr result IsRefusal }
+{
+    match report_by(alloc, read, failed) {
+        Ok(report) => write_to(alloc, outside, out, &report),
+        Err(exit) => Err(end_test(outside, &exit)),
+    }
+}
+
+/// Writes the report of a test to its file, if one is asked for. The error is the status that the program ends with.
+#[tactic(auto, using(crate::proofs::TestEnds::reports_none))]
+pub fn write_report<O: Outside>(
+    alloc: Global,
+    outside: &mut O,
+    read: &ReadTest<'_>,
+    failed: Option<&FailedTest>,
+) -> Result<(), u8>
+    ensures ok { OnOk result (Reports read.now (option_map (λ f. f.now) failed.entry) (O.done outside.old)
+        (O.done outside.new)) }
+    ensures err { IfErr result IsRefusal }
+{
+    let test = read.test;
+    match test.testing.junit {
+        Some(out) => write_report_to(alloc, outside, out, read, failed),
+        None => Ok(()),
+    }
 }

@@ -33,7 +33,7 @@ fn timed<'a, B: Body, T: Coming<B>>(
     Ok(timing)
 }
 
-/// Appends the table of responses after an empty line, or an object for each handler.
+/// Appends the table of responses after an empty line, or an object for each handler; nothing where there are none.
 fn append_timing(
     alloc: Global,
     form: Form,
@@ -42,6 +42,7 @@ fn append_timing(
     out: &mut Vec<u8>,
 ) -> Result<(), AllocError> {
     match form {
+        Form::Text if responses.all.is_empty() => Ok(()),
         Form::Text => {
             out.push(b'\n')?;
             append_responses(alloc, sys, responses, out)

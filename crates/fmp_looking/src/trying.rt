@@ -12,6 +12,7 @@ use crate::call_sentences::CallJudge;
 use crate::covering::Sightings;
 use crate::open_image::OpenImage;
 use crate::opened::Opened;
+use crate::run_positions::PositionedRun;
 use fmp_code::Vm;
 use fmp_expect::Expected;
 use fmp_frames::CallPositions;
@@ -29,6 +30,8 @@ pub struct Trials<'a> {
     /// What is said of calls.
     pub judge: &'a CallJudge<'a>,
     pub plan: RunPlan<'a>,
+    /// How many threads make the runs.
+    pub jobs: u32,
 }
 
 /// Kernels of an image, on which its runs are made.
@@ -101,19 +104,19 @@ fn seen_on<'a>(
 ) -> Result<Sightings, AllocError>
     requires { bench.old ≡ subject_in trials.now }
     ensures { IfOk result (λ seen. AreRunsSeen (IsRunOf trials.now) positions.now
-        trials.now.opened.image.now trials.now.opened.bound (seeds.last - seeds.before)
+        trials.now.opened.image.now trials.now.opened.bound seeds.before (seeds.last - seeds.before)
         (seen_at positions.now seen)) }
 {
     let mut seen = Sightings::none(alloc);
     for made in 0..seeds.count() {
         let steps = random_steps(alloc, bench, trials.plan, seeds.before + made + 1)?;
-        seen = seen.with_run(
-            alloc,
-            trials.opened.image,
-            trials.opened.bound,
+        let run = PositionedRun {
+            image: trials.opened.image,
+            bound: trials.opened.bound,
             positions,
-            &steps,
-        )?;
+            events: &steps,
+        };
+        seen = seen.with_run(alloc, run)?;
     }
     Ok(seen)
 }
@@ -127,7 +130,7 @@ pub fn sightings_of(
     seeds: Seeds,
 ) -> Result<Sightings, AllocError>
     ensures { IfOk result (λ seen. AreRunsSeen (IsRunOf trials.now) positions.now
-        trials.now.opened.image.now trials.now.opened.bound (seeds.last - seeds.before)
+        trials.now.opened.image.now trials.now.opened.bound seeds.before (seeds.last - seeds.before)
         (seen_at positions.now seen)) }
 {
     let mut bench = bench_of(alloc, trials)?;

@@ -25,18 +25,18 @@ use std::thread::Threads;
 /// How many runs a thread makes in a round at most.
 const ROUND_MOST: u64 = 64;
 
-/// What comes of each part of these seeds, where each of this many threads looks at one for the first whose random run
-/// of an image fails what is expected.
+/// What comes of each part of these seeds, where each thread looks at one for the first whose random run of an image
+/// fails what is expected.
 fn failing_parts<R: Threads + Sync>(
     alloc: Global,
     rt: &R,
-    jobs: u32,
     trials: &Trials<'_>,
     seeds: Seeds,
 ) -> Result<Vec<Result<Option<FailingSeed>, AllocError>>, AllocError>
-    requires { 0 < jobs }
-    ensures { IfOk result (λ parts. AreFirstOf trials.now seeds jobs parts.items) }
+    requires { 0 < trials.now.jobs }
+    ensures { IfOk result (λ parts. AreFirstOf trials.now seeds trials.now.jobs parts.items) }
 {
+    let jobs = trials.jobs;
     let look = |k: usize| -> Result<Option<FailingSeed>, AllocError>
         requires { k < jobs }
         ensures { IfOk result (IsFirstOf trials.entry.now (edge seeds jobs k) (edge seeds jobs (k + 1))) }
@@ -45,19 +45,18 @@ fn failing_parts<R: Threads + Sync>(
     Ok(parts)
 }
 
-/// The first of these seeds whose random run of an image fails what is expected, and that run. Each of this many
-/// threads looks at a part of the seeds.
+/// The first of these seeds whose random run of an image fails what is expected, and that run. Each thread looks at a
+/// part of the seeds.
 fn failing_seed_beside<R: Threads + Sync>(
     alloc: Global,
     rt: &R,
-    jobs: u32,
     trials: &Trials<'_>,
     seeds: Seeds,
 ) -> Result<Option<FailingSeed>, AllocError>
-    requires { 0 < jobs }
+    requires { 0 < trials.now.jobs }
     ensures { IfOk result (IsFirstOf trials.now seeds.before seeds.last) }
 {
-    let parts = failing_parts(alloc, rt, jobs, trials, seeds)?;
+    let parts = failing_parts(alloc, rt, trials, seeds)?;
     first_of(parts)
 }
 
@@ -100,20 +99,19 @@ impl Round {
     }
 }
 
-/// The first of the seeds up to this one whose random run of an image fails what is expected, and that run, by this
-/// many threads.
+/// The first of the seeds up to this one whose random run of an image fails what is expected, and that run, by several
+/// threads.
 fn first_failing_beside<R: Threads + Sync>(
     alloc: Global,
     rt: &R,
-    jobs: u32,
     trials: &Trials<'_>,
     last: u64,
 ) -> Result<Option<FailingSeed>, AllocError>
-    requires { 0 < jobs }
+    requires { 0 < trials.now.jobs }
     ensures { IfOk result (IsFirstOf trials.now 0 last) }
 {
     let mut round = Round {
-        jobs,
+        jobs: trials.jobs,
         each: 1,
         before: 0,
     };
@@ -122,7 +120,7 @@ fn first_failing_beside<R: Threads + Sync>(
         if seeds.count() == 0 {
             return Ok(None);
         }
-        match failing_seed_beside(alloc, rt, jobs, trials, seeds)? {
+        match failing_seed_beside(alloc, rt, trials, seeds)? {
             Some(found) => return Ok(Some(found)),
             None => round = round.after(seeds.last),
         }
@@ -131,22 +129,21 @@ fn first_failing_beside<R: Threads + Sync>(
 }
 
 /// The first of the random runs of an image, of the seeds from 1 to this one, that fails what is expected, made
-/// shorter, where this many threads make them. The runs of the seeds before it, or of all where there is none, meet
+/// shorter, where threads make them. The runs of the seeds before it, or of all where there is none, meet
 /// that. `AllocError` if memory runs out.
 pub fn failed_trial_beside<R: Threads + Sync>(
     alloc: Global,
     rt: &R,
-    jobs: u32,
     trials: &Trials<'_>,
     seeds: u32,
 ) -> Result<Option<FailedTrial>, AllocError>
-    requires { 0 < jobs }
+    requires { 0 < trials.now.jobs }
     ensures found { IfOk result (λ found. IfSome found
         (IsFound code_meaning breaks_by (subject_in trials.now) trials.now.plan seeds)) }
     ensures met { any_of_end trials.now.expected.now ≡ false → IfOk result (λ found. IfNone found
         (AllHaveMet code_meaning breaks_by (subject_in trials.now) trials.now.plan 0 seeds)) }
 {
-    match first_failing_beside(alloc, rt, jobs, trials, u64::from(seeds))? {
+    match first_failing_beside(alloc, rt, trials, u64::from(seeds))? {
         Some(found) => Ok(Some(shortened_trial_of(alloc, trials, found)?)),
         None => Ok(None),
     }
@@ -157,20 +154,20 @@ pub fn failed_trial_beside<R: Threads + Sync>(
 fn parts_seen<R: Threads + Sync>(
     alloc: Global,
     rt: &R,
-    jobs: u32,
     trials: &Trials<'_>,
     positions: &CallPositions,
     seeds: Seeds,
 ) -> Result<Vec<Result<Sightings, AllocError>>, AllocError>
-    requires { 0 < jobs }
+    requires { 0 < trials.now.jobs }
     ensures { IfOk result (λ parts. ArePartsSeen (IsRunOf trials.now) positions.now
-        trials.now.opened.image.now trials.now.opened.bound seeds jobs parts.items) }
+        trials.now.opened.image.now trials.now.opened.bound seeds trials.now.jobs parts.items) }
 {
+    let jobs = trials.jobs;
     let look = |k: usize| -> Result<Sightings, AllocError>
         requires { k < jobs }
         ensures { IfOk result (λ s. AreRunsSeen (IsRunOf trials.entry.now) positions.entry.now
             trials.entry.now.opened.image.now trials.entry.now.opened.bound
-            (edge seeds jobs (k + 1) - edge seeds jobs k) (seen_at positions.entry.now s)) }
+            (edge seeds jobs k) (edge seeds jobs (k + 1) - edge seeds jobs k) (seen_at positions.entry.now s)) }
     {
         sightings_of(
             alloc,
@@ -200,8 +197,9 @@ fn and_part(
 /// What is seen in the runs of parts, in order.
 fn all_seen(alloc: Global, parts: &[Result<Sightings, AllocError>]) -> Result<Sightings, AllocError>
     ensures { IfOk result (λ s. (t : Trials) (positions : List (List CallPosition)) (i : ImageTables)
-        (n : ℕ) (seeds : Seeds) (jobs : ℕ) → 0 < jobs → ArePartsSeen (IsRunOf t) positions i n seeds jobs parts.now →
-        AreRunsSeen (IsRunOf t) positions i n (seeds.last - seeds.before) (seen_at positions s)) }
+        (n : ℕ) (seeds : Seeds) (jobs : ℕ) → 0 < jobs → seeds.before ≤ seeds.last
+        → ArePartsSeen (IsRunOf t) positions i n seeds jobs parts.now →
+        AreRunsSeen (IsRunOf t) positions i n seeds.before (seeds.last - seeds.before) (seen_at positions s)) }
 {
     let mut seen = Sightings::none(alloc);
     for k in 0..parts.len() {
@@ -210,22 +208,22 @@ fn all_seen(alloc: Global, parts: &[Result<Sightings, AllocError>]) -> Result<Si
     Ok(seen)
 }
 
-/// What is seen in the random runs of these seeds of an image, whose calls stand at these positions, where this many
-/// threads make them.
+/// What is seen in the random runs of these seeds of an image, whose calls stand at these positions, where threads make
+/// them.
 fn sightings_beside<R: Threads + Sync>(
     alloc: Global,
     rt: &R,
-    jobs: u32,
     trials: &Trials<'_>,
     positions: &CallPositions,
     seeds: Seeds,
 ) -> Result<Sightings, AllocError>
-    requires { 0 < jobs }
+    requires jobs { 0 < trials.now.jobs }
+    requires order { seeds.before ≤ seeds.last }
     ensures { IfOk result (λ seen. AreRunsSeen (IsRunOf trials.now) positions.now
-        trials.now.opened.image.now trials.now.opened.bound (seeds.last - seeds.before)
+        trials.now.opened.image.now trials.now.opened.bound seeds.before (seeds.last - seeds.before)
         (seen_at positions.now seen)) }
 {
-    let parts = parts_seen(alloc, rt, jobs, trials, positions, seeds)?;
+    let parts = parts_seen(alloc, rt, trials, positions, seeds)?;
     all_seen(alloc, &parts)
 }
 
@@ -233,39 +231,35 @@ fn sightings_beside<R: Threads + Sync>(
 fn sightings_by<R: Threads + Sync>(
     alloc: Global,
     rt: &R,
-    jobs: u32,
     trials: &Trials<'_>,
     positions: &CallPositions,
     seeds: Seeds,
 ) -> Result<Sightings, AllocError>
+    requires { seeds.before ≤ seeds.last }
     ensures { IfOk result (λ seen. AreRunsSeen (IsRunOf trials.now) positions.now
-        trials.now.opened.image.now trials.now.opened.bound (seeds.last - seeds.before)
+        trials.now.opened.image.now trials.now.opened.bound seeds.before (seeds.last - seeds.before)
         (seen_at positions.now seen)) }
 {
-    if jobs <= 1 {
+    if trials.jobs <= 1 {
         return sightings_of(alloc, trials, positions, seeds);
     }
-    sightings_beside(alloc, rt, jobs, trials, positions, seeds)
+    sightings_beside(alloc, rt, trials, positions, seeds)
 }
 
-/// What is seen of the random runs of the first seeds, this many, of an image with bodies of this text, where this many
-/// threads make them. `AllocError` if memory runs out.
+/// What is seen of the random runs of an image with bodies of this text, of the seeds from 1 to this one. `AllocError`
+/// if memory runs out.
 pub fn seen_of_trials<R: Threads + Sync>(
     alloc: Global,
     rt: &R,
-    jobs: u32,
     trials: &Trials<'_>,
     src: &[u8],
-    seeds: u64,
+    last: u64,
 ) -> Result<RunsSeen, AllocError>
     ensures { IfOk result (λ seen. AreTrialsSeen (IsRunOf trials.now) src.now trials.now.opened.image.now
-        trials.now.opened.bound seeds (seen_of seen)) }
+        trials.now.opened.bound last (seen_of seen)) }
 {
     let positions = CallPositions::new(alloc, src)?;
-    let all = Seeds {
-        before: 0,
-        last: seeds,
-    };
-    let seen = sightings_by(alloc, rt, jobs, trials, &positions, all)?;
+    let all = Seeds { before: 0, last };
+    let seen = sightings_by(alloc, rt, trials, &positions, all)?;
     Ok(RunsSeen::new(positions, seen))
 }

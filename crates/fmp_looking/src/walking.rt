@@ -93,7 +93,7 @@ pub fn piece_of(kind: TokenKind) -> Piece
     }
 }
 
-/// The mark at a place.
+/// The mark at a position.
 fn mark_here(walk: &Walk, kind: MarkKind, position: CallPosition) -> Mark
     ensures { result ≡ spec.mark_here walk.now kind position }
 {

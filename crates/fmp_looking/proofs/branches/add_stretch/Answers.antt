@@ -10,12 +10,12 @@ returns-then-not-goes_on g c =
     let M = g.B.Body.meaning c.args.body.now in
     let code = c.args.code.instructions.now in
     let body = c.args.code.number in
-    let all = stretch_steps M code body c.args.n c.args.context in
+    let all = stretch_steps M code body c.args.stretch.n c.args.stretch.from in
     all_gone 1 c.args.ways.now c.add_step.new.ways [] all refl
     (gone_on 1 c.args.ways.now c.loop-turn.ways c.add_step.new.ways
-    (stretch_steps M code body (c.args.n - c.loop-turn.turn) c.loop-turn.here)
+    (stretch_steps M code body (c.args.stretch.n - c.loop-turn.turn) c.loop-turn.here)
     (step_here code body c.loop-turn.here) [] all
-    (stretch_on M code body c.args.n c.loop-turn.turn c.loop-turn.here None c.loop-turn-test.true
+    (stretch_on M code body c.args.stretch.n c.loop-turn.turn c.loop-turn.here None c.loop-turn-test.true
     (c.goes_on.ensures.next ∙ ap (λ (r : Bool). left_if r c.goes_on.new.context) c.if-not-goes_on.true))
     c.in_ok-add_step.ensures c.loop-turn.invariant.steps)
 
@@ -33,15 +33,15 @@ returns-then-is_same g c =
     let M = g.B.Body.meaning c.args.body.now in
     let code = c.args.code.instructions.now in
     let body = c.args.code.number in
-    let all = stretch_steps M code body c.args.n c.args.context in
-    let rest = stretch_steps M code body (c.args.n - (c.loop-turn.turn + 1)) c.goes_on.new.context in
+    let all = stretch_steps M code body c.args.stretch.n c.args.stretch.from in
+    let rest = stretch_steps M code body (c.args.stretch.n - (c.loop-turn.turn + 1)) c.goes_on.new.context in
     on_ok_weaker c.add_cycle.result
     (λ cycle. all_gone 1 c.args.ways.now c.add_cycle.new.ways [] all refl
     (gone_on 1 c.args.ways.now c.add_step.new.ways c.add_cycle.new.ways rest rest [] all (sym (append-nil rest)) cycle
     (gone_on 1 c.args.ways.now c.loop-turn.ways c.add_step.new.ways
-    (stretch_steps M code body (c.args.n - c.loop-turn.turn) c.loop-turn.here)
+    (stretch_steps M code body (c.args.stretch.n - c.loop-turn.turn) c.loop-turn.here)
     (step_here code body c.loop-turn.here) rest all
-    (stretch_on M code body c.args.n c.loop-turn.turn c.loop-turn.here (Some c.goes_on.new.context)
+    (stretch_on M code body c.args.stretch.n c.loop-turn.turn c.loop-turn.here (Some c.goes_on.new.context)
     c.loop-turn-test.true
     (c.goes_on.ensures.next ∙ ap (λ (r : Bool). left_if r c.goes_on.new.context) c.if-not-goes_on.false))
     c.in_ok-add_step.ensures c.loop-turn.invariant.steps)))
@@ -52,13 +52,13 @@ loop-turn-preserved g c =
     let M = g.B.Body.meaning c.args.body.now in
     let code = c.args.code.instructions.now in
     let body = c.args.code.number in
-    let all = stretch_steps M code body c.args.n c.args.context in
-    let rest = stretch_steps M code body (c.args.n - (c.loop-turn.turn + 1)) c.goes_on.new.context in
+    let all = stretch_steps M code body c.args.stretch.n c.args.stretch.from in
+    let rest = stretch_steps M code body (c.args.stretch.n - (c.loop-turn.turn + 1)) c.goes_on.new.context in
     record {
       steps = gone_on 1 c.args.ways.now c.loop-turn.ways c.add_step.new.ways
-          (stretch_steps M code body (c.args.n - c.loop-turn.turn) c.loop-turn.here)
+          (stretch_steps M code body (c.args.stretch.n - c.loop-turn.turn) c.loop-turn.here)
           (step_here code body c.loop-turn.here) rest all
-          (stretch_on M code body c.args.n c.loop-turn.turn c.loop-turn.here (Some c.goes_on.new.context)
+          (stretch_on M code body c.args.stretch.n c.loop-turn.turn c.loop-turn.here (Some c.goes_on.new.context)
           c.loop-turn-test.true
           (c.goes_on.ensures.next ∙ ap (λ (r : Bool). left_if r c.goes_on.new.context) c.if-not-goes_on.false))
           c.in_ok-add_step.ensures c.loop-turn.invariant.steps;

@@ -11,12 +11,12 @@ returns c =
     subst
     (λ (i : ImageTables).
     IfOk c.trace_of.result
-    (λ out. IsTrace c.args.form i.system c.args.positions.now code_meaning (reaction_of code_meaning)
-    (kernel_after i c.args.n [])
-    c.args.events.now out.items)) c.new.ensures.image
+    (λ out. IsTrace c.args.run.form i.system c.args.positions.now code_meaning (reaction_of code_meaning)
+    (kernel_after i c.args.run.bound [])
+    c.args.events.now out.items)) c.new-opened.ensures.image
     (subst
     (λ (b : ℕ).
     IfOk c.trace_of.result
-    (λ out. IsTrace c.args.form c.new.result.image.now.system c.args.positions.now code_meaning
-    (reaction_of code_meaning) (kernel_after c.new.result.image.now b []) c.args.events.now out.items))
-    c.new.ensures.bound c.trace_of.ensures)
+    (λ out. IsTrace c.args.run.form c.new-opened.result.image.now.system c.args.positions.now code_meaning
+    (reaction_of code_meaning) (kernel_after c.new-opened.result.image.now b []) c.args.events.now out.items))
+    c.new-opened.ensures.bound c.trace_of.ensures)

@@ -18,7 +18,7 @@ loop-made-preserved c =
       one_answered (IsRunOf trials) trials.opened.image.now trials.opened.bound c.loop-made.made
           c.loop-made.answers.items c.deref-in-loop-made.result.now c.add_answers.new.answers.items c.deref.result.now
           c.loop-made.invariant.1
-          (subst (IsRunOf trials) (sym c.deref.ensures.value)
+          (subst (IsRunOf trials (c.loop-made.made + 1)) (sym c.deref.ensures.value)
           (run_of_trials trials c.loop-made.bench (c.loop-made.made + 1) c.in_ok-steps.steps.items
           c.loop-made.invariant.0 c.in_ok-steps.ensures.run))
           (c.deref-in-loop-made.ensures.value ∙ c.in_ok-more.ensures) c.in_ok-add_answers.ensures,

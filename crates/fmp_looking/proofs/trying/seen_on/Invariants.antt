@@ -7,5 +7,5 @@ use Rattle.fmp_looking.proofs.trying.seen_on.Given as goal
 abbrev pub invariant-loop-made : goal.invariant-loop-made
 invariant-loop-made l =
     (l.bench ≡ subject_in l.trials)
-    × AreRunsSeen (IsRunOf l.trials) l.positions l.trials.opened.image.now l.trials.opened.bound l.made
+    × AreRunsSeen (IsRunOf l.trials) l.positions l.trials.opened.image.now l.trials.opened.bound l.seeds.before l.made
     (seen_at l.positions l.seen)

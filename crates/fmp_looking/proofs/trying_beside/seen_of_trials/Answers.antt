@@ -12,7 +12,7 @@ returns g c =
     let positions = c.in_ok-positions.positions in
     let seen = seen_at positions c.in_ok-seen.seen in
     rw c.new-2.ensures
-    (trials_seen (IsRunOf trials) c.args.src.now positions trials.opened.image.now trials.opened.bound c.args.seeds seen
+    (trials_seen (IsRunOf trials) c.args.src.now positions trials.opened.image.now trials.opened.bound c.args.last seen
     c.in_ok-positions.ensures
-    (as_many (IsRunOf trials) positions trials.opened.image.now trials.opened.bound _ c.args.seeds seen
-    (all c.args.seeds) c.in_ok-seen.ensures))
+    (as_many (IsRunOf trials) positions trials.opened.image.now trials.opened.bound 0 _ c.args.last seen
+    (all c.args.last) c.in_ok-seen.ensures))

@@ -3,7 +3,7 @@ use Rattle.std.specs.Prelude.{codes, decimal}
 use Rattle.fmp_files.specs.Deeds.{Deed, Does, said}
 use Rattle.fmp_trials.specs.declared.testing.FailedTrial.{FailedTrial}
 use Rattle.fmp_looking.specs.TestLines.{seed_line, shorter_still}
-use Rattle.fmp_looking.proofs.running.say_seed.Goals as goal
+use Rattle.fmp_looking.proofs.test_telling.say_seed.Goals as goal
 
 abbrev line : FailedTrial → (left : ℕ) → (end : List ℕ) → List ℕ
 line t left end =

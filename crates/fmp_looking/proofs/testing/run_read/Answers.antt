@@ -1,5 +1,5 @@
 use Rattle.fmp_looking.proofs.TestEnds.{if_none}
-use Rattle.fmp_looking.proofs.running.run_read.Goals as goal
+use Rattle.fmp_looking.proofs.testing.run_read.Goals as goal
 
 pub returns-in-Ok : goal.returns-in-Ok
 returns-in-Ok g c = λ done.

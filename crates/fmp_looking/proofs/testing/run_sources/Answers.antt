@@ -1,5 +1,5 @@
 use Rattle.std.proofs.Common.{refl}
-use Rattle.fmp_looking.proofs.running.run_sources.Goals as goal
+use Rattle.fmp_looking.proofs.testing.run_sources.Goals as goal
 
 pub returns : goal.returns
 returns g c = λ done. (

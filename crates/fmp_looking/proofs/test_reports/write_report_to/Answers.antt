@@ -1,5 +1,5 @@
 use Rattle.std.proofs.lemmas.Result.{on_ok_weaker}
-use Rattle.fmp_looking.proofs.running.write_report_to.Goals as goal
+use Rattle.fmp_looking.proofs.test_reports.write_report_to.Goals as goal
 
 pub returns-in-Ok-clause-ok : goal.returns-in-Ok-clause-ok
 returns-in-Ok-clause-ok g c =

@@ -1,5 +1,5 @@
 use Rattle.std.proofs.lemmas.Result.{on_ok_weaker}
-use Rattle.fmp_looking.proofs.running.tell_all.Goals as goal
+use Rattle.fmp_looking.proofs.testing.tell_all.Goals as goal
 
 pub returns-clause-ok : goal.returns-clause-ok
 returns-clause-ok g c =

@@ -1,5 +1,5 @@
 use Rattle.std.proofs.lemmas.Result.{on_ok_weaker}
-use Rattle.fmp_looking.proofs.running.tell_refused.Goals as goal
+use Rattle.fmp_looking.proofs.test_telling.tell_refused.Goals as goal
 
 pub returns-in-Ok-clause-ok : goal.returns-in-Ok-clause-ok
 returns-in-Ok-clause-ok g c =

@@ -1,7 +1,7 @@
 use Rattle.std.proofs.lemmas.Result.{on_ok_weaker}
 use Rattle.std.specs.Str.Lossy.{utf8_lossy}
 use Rattle.fmp_looking.proofs.TestEnds.{says_both}
-use Rattle.fmp_looking.proofs.running.say_failed.Goals as goal
+use Rattle.fmp_looking.proofs.test_telling.say_failed.Goals as goal
 
 pub returns-clause-ok : goal.returns-clause-ok
 returns-clause-ok g c =

@@ -1,7 +1,7 @@
 use Rattle.std.proofs.Common.{option_map}
 use Rattle.std.proofs.lemmas.Result.{on_ok_weaker}
 use Rattle.fmp_looking.proofs.TestEnds.{report_of_borrowed, reports_some}
-use Rattle.fmp_looking.proofs.running.write_report.Goals as goal
+use Rattle.fmp_looking.proofs.test_reports.write_report.Goals as goal
 
 pub returns-in-Some-clause-ok : goal.returns-in-Some-clause-ok
 returns-in-Some-clause-ok g c =
