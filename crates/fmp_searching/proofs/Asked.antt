@@ -5,7 +5,7 @@ use Rattle.fmp_expect.specs.declared.expectation.Expected.{Expected}
 use Rattle.fmp_instructions.specs.Instructions.{BodyTables}
 use Rattle.fmp_question.specs.declared.question.Question.{Question}
 use Rattle.fmp_searching.specs.Questions.{IsQuestionWith}
-use Rattle.fmp_searching.specs.Sites.{TextBody}
+use Rattle.fmp_frames.specs.CallPositions.{TextBody}
 use Rattle.fmp_searching.specs.declared.asking.ExploreWords.{ExploreWords}
 use Rattle.fmp_searching.specs.declared.words.CodeAt.{CodeAt}
 

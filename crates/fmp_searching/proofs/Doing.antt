@@ -1,9 +1,12 @@
 -- What is done outside, deed by deed.
 use Rattle.std.proofs.Common.{◌≡◌, ◌∙◌, ◌⊎◌, ◌++◌, ◌+◌, ◌<◌, ℕ, suc, zero, Bool, false, List, [], ◌∷◌, Option}
-use Rattle.std.proofs.Common.{Global, Result, Ok, Err, String, ap, arith, get_or, inl, inr, length, map, option_map}
+use Rattle.std.proofs.Common.{Global, Result, Ok, Err, String, ap, arith, get_or, inl, inr, length, map}
+use Rattle.std.proofs.Common.{option_map}
 use Rattle.std.proofs.Common.{refl, string_bytes}
 use Rattle.std.proofs.Common.{subst, sym, take}
-use Rattle.std.specs.Prelude.{OnErr, OnOk}
+use Rattle.std.specs.Global.{Vec}
+use Rattle.std.specs.Prelude.{IfOk, MatchOption, OnErr, OnOk, Some}
+use Rattle.std.proofs.Math.Seq.{take-length}
 use Rattle.std.specs.List.{AllByRecursion, list_any, range_with_len}
 use Rattle.fmp_files.specs.Deeds.{Begins, Deed, Does, Says, printed, removed, said, wrote}
 use Rattle.fmp_files.specs.Endings.{EndsPrinting, IsOneOf, all_printed, some_printed}
@@ -11,10 +14,12 @@ use Rattle.fmp_files.specs.Messages.{failure_line}
 use Rattle.fmp_files.specs.Prints.{Prints}
 use Rattle.fmp_files.specs.PrintsLaws.{does_nothing}
 use Rattle.fmp_searching.specs.Claimed.{PrintsNothing, is_print}
-use Rattle.fmp_searching.specs.Deeds.{DoesOnly, IsReportFile, IsSaying, IsStepsFile, IsTelling, IsWriteOf, MayDo}
-use Rattle.fmp_searching.specs.Deeds.{SaysOnly, TellsOnly}
+use Rattle.fmp_searching.specs.Deeds.{DoesOnly, GivesNothing, IsFront, IsFrontOfOne, IsIdle, IsReportFile, IsSaying}
+use Rattle.fmp_searching.specs.Deeds.{IsStepsFile, IsTelling, IsWriteOf, MayDo, SaysOnly, TellsOnly, WritesFront}
+use Rattle.fmp_searching.specs.Deeds.{WritesResult}
 use Rattle.fmp_searching.specs.Files.{IsApart, IsRemoval, RemovesSteps, steps_names}
 use Rattle.fmp_searching.specs.Sources.{steps_name}
+use Rattle.fmp_searching.specs.declared.exploring.Explored.{Explored}
 use Rattle.fmp_searching.specs.declared.sources.Exploring.{Exploring}
 use Rattle.fmp_searching.proofs.Endings.{all_then}
 use Rattle.fmp_searching.proofs.Printing.{does_then}
@@ -94,6 +99,38 @@ printing_tells bytes can_fail a b status (some_printed can front left whole betw
     only_then a between b (prints_tell a between front prints)
     (says_tell between b (says_one between b (failure_line says.0, says.2)))
 
+-- ---- what gives nothing
+
+saying_idle : (d : Deed) → IsSaying d → IsIdle d
+saying_idle (wrote name bytes) h = h
+saying_idle (removed name) h = absurd h
+saying_idle (printed bytes) h = h
+saying_idle (said text) h = tt
+
+pub says_idle : (a b : Option (List Deed)) → SaysOnly a b → GivesNothing a b
+says_idle a b h = only_weaker a b saying_idle h
+
+pub said_idle : (a b : Option (List Deed)) → Says a b → GivesNothing a b
+said_idle a b h = says_idle a b (says_one a b h)
+
+pub idly_refused : {P : Type 0} (a b : Option (List Deed)) → Says a b → GivesNothing a b ⊎ P
+idly_refused a b h = inl (said_idle a b h)
+
+removal_idle : (e : Exploring) (out : List ℕ) (count : ℕ) (d : Deed) → IsRemoval e out count d → IsIdle d
+removal_idle e out count (wrote name bytes) h = h
+removal_idle e out count (removed name) h = tt
+removal_idle e out count (printed bytes) h = h
+removal_idle e out count (said text) h = tt
+
+pub removes_idle : (e : Exploring) (out : List ℕ) (count : ℕ) (a b : Option (List Deed)) → RemovesSteps e out count a b
+    → GivesNothing a b
+removes_idle e out count a b h =
+    record { deeds = h.deeds; each = each_weaker h.deeds (removal_idle e out count) h.each; done = h.done }
+
+pub if_ok : {A E P : Type 0} (result : Result A E) → P → IfOk result (λ _. P)
+if_ok (Ok x) p = p
+if_ok (Err e) p = tt
+
 -- ---- what an exploration may do
 
 module _ (e : Exploring) (out : List ℕ) where
@@ -164,6 +201,105 @@ module _ (e : Exploring) (out : List ℕ) where
   report_begun name bytes a b apart is h = elim h [
     | inl none ↦ record { deeds = []; each = tt; done = none }
     | inr some ↦ report_may name (take some.0 bytes) a b apart is some.1
+  ]
+
+-- ---- what files have that are written
+
+pub front_whole : (text : List ℕ) → IsFront text text
+front_whole text = (length text, sym (take-length text))
+
+-- a file was written, or a front of it
+pub writes_front : {A E : Type 0} (names texts : List (List ℕ)) (name text : List ℕ) (result : Result A E)
+    (a b : Option (List Deed)) → ((bytes : List ℕ) → IsFront text bytes → IsFrontOfOne names texts name bytes)
+    → OnOk result (Does a (wrote name text ∷ []) b) → OnErr result (Begins (wrote name) text a b)
+    → DoesOnly (WritesFront names texts) a b
+writes_front names texts name text (Ok x) a b one ok err =
+    record { deeds = wrote name text ∷ []; each = (one text (front_whole text), tt); done = ok }
+writes_front names texts name text (Err x) a b one ok err = elim err [
+  | inl none ↦ record { deeds = []; each = tt; done = none }
+  | inr some ↦
+      record {
+        deeds = wrote name (take some.0 text) ∷ [];
+        each = (one (take some.0 text) (some.0, refl), tt);
+        done = some.1;
+      }
+]
+
+-- a beginning of the text at a place, under the name there
+pub front_at : (names : List (String Global)) (texts : List (Vec ℕ)) (place : ℕ) (name : String Global)
+    (text : Vec ℕ) → place < length names → place < length texts → name ≡ get_or names place name
+    → text ≡ get_or texts place text → (bytes : List ℕ) → IsFront text.items bytes
+    → IsFrontOfOne (map string_bytes names) (map (λ t. t.items) texts) (string_bytes name) bytes
+front_at [] texts place name text low few is same bytes front = absurd (omega (arith, low))
+front_at (first ∷ names) [] place name text low few is same bytes front = absurd (omega (arith, few))
+front_at (first ∷ names) (head ∷ texts) zero name text low few is same bytes front =
+    inl (
+      ap (λ (n : String Global). string_bytes n) is,
+      subst (λ (t : Vec ℕ). IsFront t.items bytes) same front,
+    )
+front_at (first ∷ names) (head ∷ texts) (suc place) name text low few is same bytes front =
+    inr (front_at names texts place name text (omega (arith, low)) (omega (arith, few)) is same bytes front)
+
+module _ (e : Exploring) (out : List ℕ) (x : Explored) where
+  idle_result : (d : Deed) → IsIdle d → WritesResult e out x d
+  idle_result (wrote name bytes) h = absurd h
+  idle_result (removed name) h = tt
+  idle_result (printed bytes) h = tt
+  idle_result (said text) h = tt
+
+  pub idle_writes : (a b : Option (List Deed)) → GivesNothing a b → DoesOnly (WritesResult e out x) a b
+  idle_writes a b h = only_weaker a b idle_result h
+
+  telling_result : (d : Deed) → IsTelling d → WritesResult e out x d
+  telling_result (wrote name bytes) h = absurd h
+  telling_result (removed name) h = tt
+  telling_result (printed bytes) h = tt
+  telling_result (said text) h = tt
+
+  pub tells_writes : (a b : Option (List Deed)) → TellsOnly a b → DoesOnly (WritesResult e out x) a b
+  tells_writes a b h = only_weaker a b telling_result h
+
+  steps_result : (names : List (List ℕ)) → names ≡ steps_names out (length x.steps.items) → (d : Deed)
+      → WritesFront names (map (λ text. text.items) x.steps.items) d → WritesResult e out x d
+  steps_result names is (wrote name bytes) h =
+      inl
+      (subst (λ (ns : List (List ℕ)). IsFrontOfOne ns (map (λ text. text.items) x.steps.items) name bytes) is h)
+  steps_result names is (removed name) h = tt
+  steps_result names is (printed bytes) h = tt
+  steps_result names is (said text) h = tt
+
+  pub steps_write : (names : List (List ℕ)) (a b : Option (List Deed)) → names ≡ steps_names out (length x.steps.items)
+      → DoesOnly (WritesFront names (map (λ text. text.items) x.steps.items)) a b → DoesOnly (WritesResult e out x) a b
+  steps_write names a b is h = only_weaker a b (steps_result names is) h
+
+  -- a report is written to its file, or a front of it
+  report_front : (name : List ℕ) (report : Vec ℕ) (bytes : List ℕ) → IsReportFile e name → x.report ≡ Some report
+      → IsFront report.items bytes → WritesResult e out x (wrote name bytes)
+  report_front name report bytes is some front =
+      inr (
+        is,
+        subst (λ (o : Option (Vec ℕ)). MatchOption o ⊥ (λ r. IsFront r.items bytes)) (sym some) front,
+      )
+
+  pub report_write : (name : List ℕ) (report : Vec ℕ) (a b : Option (List Deed)) → IsReportFile e name
+      → x.report ≡ Some report → Does a (wrote name report.items ∷ []) b → DoesOnly (WritesResult e out x) a b
+  report_write name report a b is some h =
+      record {
+        deeds = wrote name report.items ∷ [];
+        each = (report_front name report report.items is some (front_whole report.items), tt);
+        done = h;
+      }
+
+  pub report_begin : (name : List ℕ) (report : Vec ℕ) (a b : Option (List Deed)) → IsReportFile e name
+      → x.report ≡ Some report → Begins (wrote name) report.items a b → DoesOnly (WritesResult e out x) a b
+  report_begin name report a b is some h = elim h [
+    | inl none ↦ record { deeds = []; each = tt; done = none }
+    | inr part ↦
+        record {
+          deeds = wrote name (take part.0 report.items) ∷ [];
+          each = (report_front name report (take part.0 report.items) is some (part.0, refl), tt);
+          done = part.1;
+        }
   ]
 
 -- ---- files that are written

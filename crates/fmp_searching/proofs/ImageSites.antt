@@ -1,4 +1,4 @@
--- The code of an image is short enough for the places of its calls, also as those who look at runs count them.
+-- The code of an image is short enough for the positions of its calls, also as those who look at runs count them.
 use Rattle.std.proofs.Common.{ℕ, zero, suc, ◌≤◌, List, [], ◌∷◌, length, arith}
 use Rattle.fmp_image_bytes.specs.Images.{ImageTables, IsImage}
 use Rattle.fmp_image_bytes.specs.declared.heads.BodyHead.{BodyHead}

@@ -13,8 +13,7 @@ use Rattle.fmp_files.specs.Deeds.{Deed, Does, printed}
 use Rattle.fmp_files.specs.Endings.{EndsPrinting}
 use Rattle.fmp_files.specs.Outside.{Files}
 use Rattle.fmp_files.specs.Prints.{Prints}
-use Rattle.fmp_frames.specs.CallPositions.{AreCallsOf}
-use Rattle.fmp_frames.specs.declared.call_positions.CallPosition.{CallPosition}
+use Rattle.fmp_frames.specs.CallPositions.{AreBodiesOf, TextBody}
 use Rattle.fmp_image.specs.Building.{Builds}
 use Rattle.fmp_image_bytes.specs.Images.{ImageTables}
 use Rattle.fmp_question.specs.declared.question.Question.{Question}
@@ -24,6 +23,7 @@ use Rattle.fmp_trace.specs.Steps.{steps_text}
 use Rattle.fmp_explore.specs.declared.exploring.Report.{Report}
 use Rattle.fmp_explore.specs.Searching.{NothingIsFound}
 use Rattle.fmp_searching.specs.Claims.{ClaimTables, ending_text, is_done, status_of}
+use Rattle.fmp_searching.specs.Deeds.{DoesOnly, WritesResult}
 use Rattle.fmp_searching.specs.Extent.{extent_text}
 use Rattle.fmp_searching.specs.Files.{IsApart, RemovesSteps, files_written, out_name, report_written, steps_names}
 use Rattle.fmp_searching.specs.Findings.{finding_text}
@@ -31,7 +31,7 @@ use Rattle.fmp_searching.specs.Lines.{numbered}
 use Rattle.fmp_searching.specs.Questions.{IsQuestionOf, codes_in, nevers_at_in}
 use Rattle.fmp_searching.specs.Records.{IsReportRecords}
 use Rattle.fmp_searching.specs.Seen.{AreSeen}
-use Rattle.fmp_searching.specs.Sites.{AreBodiesOf, TextBody}
+use Rattle.fmp_searching.specs.Sites.{positions_of}
 use Rattle.fmp_searching.specs.Sources.{SourceTables}
 use Rattle.fmp_searching.specs.Tests.{IsTestReport}
 use Rattle.fmp_searching.specs.Unsaid.{has_unsaid}
@@ -111,13 +111,15 @@ pub record PrintsAll (text : List ℕ) (before after : Option (List Deed)) : Typ
   pub printed : Prints before text between
   pub then : PrintsNothing between after
 
--- nothing was printed but what a search came to, whatever that is, as far as that works
-pub record HasShown (s : SourceTables) (begun done : Option (List Deed)) : Type 0 where
+-- nothing was printed but what a search came to, whatever that is, as far as that works, and each file that was written
+-- has what it came to, or a beginning of that
+pub record HasShown (e : Exploring) (s : SourceTables) (begun done : Option (List Deed)) : Type 0 where
   pub explored : Explored
   pub is : IsExplored s explored
   pub before : Option (List Deed)
   pub quiet : PrintsNothing begun before
   pub prints : PrintsOnly explored.text.items before done
+  pub writes : DoesOnly (WritesResult e s.out explored) begun done
 
 -- what was printed last is all of what a search came to
 pub record HasShownAll (s : SourceTables) (done : Option (List Deed)) : Type 0 where
@@ -177,14 +179,12 @@ abbrev pub sentences_in : Result (List Expected) ExpectFault → List Expected
 sentences_in (Ok expected) = expected
 sentences_in (Err fault) = []
 
--- what the report of an exploration speaks of, by what it claims, where calls stand, the names of locals, and the text
--- of its sentences
-abbrev pub sources_of : ClaimTables → (positions : List (List CallPosition)) → LocalNames → (said : List ℕ)
-    → Exploring → SourceTables
-sources_of c positions names said e =
+-- what the report of an exploration speaks of, by what it claims, the names of locals, and the text of its sentences
+abbrev pub sources_of : ClaimTables → LocalNames → (said : List ℕ) → Exploring → SourceTables
+sources_of c names said e =
     record {
       claim = c;
-      positions = positions;
+      positions = positions_of c.bodies;
       names = names;
       src = e.src.now;
       out = out_name e.cfg.now (option_map (λ name. name.now) e.out);
@@ -199,12 +199,10 @@ sources_of c positions names said e =
       nevers_at = length (nevers_at_in c.image.code c.bodies (codes_in e.asked.nevers.now));
     }
 
--- something is so of what the report of an exploration speaks of, whose bodies have this text
-pub record OfQuestion (c : ClaimTables) (src said : List ℕ) (e : Exploring) (P : SourceTables → Type 0) : Type 0 where
-  pub positions : List (List CallPosition)
-  pub stand : AreCallsOf src positions
+-- something is so of what the report of an exploration speaks of
+pub record OfQuestion (c : ClaimTables) (said : List ℕ) (e : Exploring) (P : SourceTables → Type 0) : Type 0 where
   pub names : LocalNames
-  pub so : P (sources_of c positions names said e)
+  pub so : P (sources_of c names said e)
 
 -- the same of an image, and of what the words and a text of sentences ask, which is read for the system as its
 -- configuration describes it
@@ -214,7 +212,7 @@ pub record OfImage (i : ImageTables) (configured : SystemTables) (src said : Lis
   pub are : AreBodiesOf src bodies
   pub question : Question
   pub asks : IsQuestionOf e.asked said configured i.system i.code bodies question
-  pub holds : OfQuestion (claim_of i configured bodies question e) src said e P
+  pub holds : OfQuestion (claim_of i configured bodies question e) said e P
 
 -- the same of the image that two texts build
 pub record OfTexts (cfg src said : List ℕ) (e : Exploring) (P : SourceTables → Type 0) : Type 0 where

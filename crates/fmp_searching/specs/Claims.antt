@@ -36,7 +36,8 @@ use Rattle.fmp_question.specs.declared.site.CallSite.{CallSite}
 use Rattle.fmp_question.specs.Forbidden.{is_same_fault}
 use Rattle.fmp_searching.specs.Limits.{limits_text}
 use Rattle.fmp_searching.specs.Sentences.{monitors_text}
-use Rattle.fmp_searching.specs.Sites.{TextBody, line_of}
+use Rattle.fmp_frames.specs.CallPositions.{TextBody}
+use Rattle.fmp_searching.specs.Sites.{line_of}
 use Rattle.fmp_searching.specs.declared.sources.Claim.{Claim}
 
 -- what a claim is about: an image, its system as the configuration describes it, the bodies of its text, a question,
@@ -81,11 +82,11 @@ abbrev pub service_of : Option Instruction → Option Service
 service_of (Some (instruction.Call service out result)) = Some service
 service_of _ = None
 
--- the service that is called at a place of the code, if one is
+-- the service that is called at a position of the code, if one is
 abbrev pub service_at : List BodyTables → CallSite → Option Service
 service_at code site = service_of (slice_get (instructions_at code site.body) site.pc)
 
--- a call by its name and its line; else by its place
+-- a call by its name and its line; else by its position
 unfoldable pub call_text : CallSite → (service : Option Service) → (line : Option ℕ) → List ℕ
 call_text site (Some service) (Some line) = service_name service ++ (codes " in line " ++ decimal line)
 call_text site _ _ = codes "the call at " ++ (decimal site.pc ++ (codes " of body " ++ decimal site.body))

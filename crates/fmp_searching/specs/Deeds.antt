@@ -1,11 +1,12 @@
 -- What an exploration does outside of itself: which files it writes and removes, and that else it only prints and says.
-use Rattle.std.specs.Prelude.{ℕ, ◌≡◌, ◌⊎◌, List, [], ◌∷◌, Bool, true, false, Option, Some, None, drop, length}
-use Rattle.std.specs.Prelude.{option_map, take, ⊤}
+use Rattle.std.specs.Prelude.{ℕ, ◌≡◌, ◌⊎◌, List, [], ◌∷◌, Bool, true, false, MatchOption, Option, Some, None, drop}
+use Rattle.std.specs.Prelude.{length, map, option_map, take, ⊤}
 use Rattle.std.specs.List.{AllByRecursion, list_any}
 use Rattle.fmp_files.specs.Deeds.{Deed, Does, printed, removed, said, wrote}
 use Rattle.fmp_files.specs.Endings.{IsOneOf}
-use Rattle.fmp_searching.specs.Files.{IsApart, out_name}
+use Rattle.fmp_searching.specs.Files.{IsApart, out_name, steps_names}
 use Rattle.fmp_searching.specs.Sources.{steps_name}
+use Rattle.fmp_searching.specs.declared.exploring.Explored.{Explored}
 use Rattle.fmp_searching.specs.declared.sources.Exploring.{Exploring}
 
 -- each deed is such a one
@@ -36,6 +37,17 @@ IsTelling (said text) = ⊤
 abbrev pub TellsOnly : (before after : Option (List Deed)) → Type 0
 TellsOnly before after = DoesOnly IsTelling before after
 
+-- a file is removed, or a text is said
+abbrev pub IsIdle : Deed → Type 0
+IsIdle (wrote name bytes) = ⊥
+IsIdle (removed name) = ⊤
+IsIdle (printed bytes) = ⊥
+IsIdle (said text) = ⊤
+
+-- nothing was printed or written
+abbrev pub GivesNothing : (before after : Option (List Deed)) → Type 0
+GivesNothing before after = DoesOnly IsIdle before after
+
 -- one of these files is written, or a text is said
 abbrev pub IsWriteOf : (names : List (List ℕ)) → Deed → Type 0
 IsWriteOf names (wrote name bytes) = IsOneOf names name
@@ -62,6 +74,42 @@ MayDo e out (said text) = ⊤
 -- nothing else was done by an exploration: the files that it reads stay as they are, and so do all that are not its own
 abbrev pub KeepsFiles : Exploring → (before after : Option (List Deed)) → Type 0
 KeepsFiles e before after = DoesOnly (MayDo e (out_name e.cfg.now (option_map (λ name. name.now) e.out))) before after
+
+-- ---- what files have that are written
+
+-- a beginning of a text, or all of it
+abbrev pub IsFront : (text bytes : List ℕ) → Type 0
+IsFront text bytes = (count : ℕ) × (bytes ≡ take count text)
+
+-- a name is one of these, and the bytes are a beginning of the text at its place
+abbrev pub IsFrontOfOne : (names texts : List (List ℕ)) → (name bytes : List ℕ) → Type 0
+IsFrontOfOne [] texts name bytes = ⊥
+IsFrontOfOne (first ∷ names) [] name bytes = ⊥
+IsFrontOfOne (first ∷ names) (text ∷ texts) name bytes =
+    ((name ≡ first) × IsFront text bytes) ⊎ IsFrontOfOne names texts name bytes
+
+-- if a file is written, then one of these, with a beginning of its text
+abbrev pub WritesFront : (names texts : List (List ℕ)) → Deed → Type 0
+WritesFront names texts (wrote name bytes) = IsFrontOfOne names texts name bytes
+WritesFront names texts (removed name) = ⊤
+WritesFront names texts (printed bytes) = ⊤
+WritesFront names texts (said text) = ⊤
+
+-- the bytes are a beginning of the steps of the finding whose file has this name
+abbrev pub IsFrontOfSteps : (out : List ℕ) → Explored → (name bytes : List ℕ) → Type 0
+IsFrontOfSteps out x name bytes =
+    IsFrontOfOne (steps_names out (length x.steps.items)) (map (λ text. text.items) x.steps.items) name bytes
+
+-- the bytes are a beginning of the report of tests, whose file has this name
+abbrev pub IsFrontOfReport : Exploring → Explored → (name bytes : List ℕ) → Type 0
+IsFrontOfReport e x name bytes = IsReportFile e name × MatchOption x.report ⊥ (λ report. IsFront report.items bytes)
+
+-- if a file is written, then one of steps or that of the report, with a beginning of what this search came to
+abbrev pub WritesResult : Exploring → (out : List ℕ) → Explored → Deed → Type 0
+WritesResult e out x (wrote name bytes) = IsFrontOfSteps out x name bytes ⊎ IsFrontOfReport e x name bytes
+WritesResult e out x (removed name) = ⊤
+WritesResult e out x (printed bytes) = ⊤
+WritesResult e out x (said text) = ⊤
 
 -- ---- what a type keeps of a search
 

@@ -91,14 +91,19 @@ unrun_records sys r =
 abbrev pub peak_record : (what : List ℕ) → Name → (most : ℕ) → List ℕ
 peak_record what name most = named_record what (name_text name) (Some most)
 
+-- the greatest length of each data queue and each mailbox
+abbrev pub length_records : SystemTables → Report → List ℕ
+length_records sys r =
+    numbered (λ i x most. peak_record (codes "greatest_length") x.name most) 0 sys.data_queues
+    r.coverage.peaks.words.items
+    ++ numbered (λ i x most. peak_record (codes "greatest_length") x.name most) 0 sys.mailboxes
+    r.coverage.peaks.messages.items
+
 abbrev pub peak_records : SystemTables → Report → List ℕ
 peak_records sys r =
     numbered (λ i x most. peak_record (codes "greatest_count") x.name most) 0 sys.semaphores
     r.coverage.peaks.counts.items
-    ++ (numbered (λ i x most. peak_record (codes "greatest_length") x.name most) 0 sys.data_queues
-    r.coverage.peaks.words.items
-    ++ numbered (λ i x most. peak_record (codes "greatest_length") x.name most) 0 sys.mailboxes
-    r.coverage.peaks.messages.items)
+    ++ length_records sys r
 
 abbrev pub varied_record : SourceTables → (most : ℕ) → Variety → List ℕ
 varied_record s most v =
@@ -107,14 +112,21 @@ varied_record s most v =
 abbrev pub varied_records : SourceTables → List Variety → List ℕ
 varied_records s vs = flat_map (λ v. varied_record s (most_values vs) v) vs
 
+-- the calls that were never made, those that are asked for with their answers, and those that are refused
+abbrev pub call_records : SourceTables → List CallSite → List AnsweredCall → List Refused → List ℕ
+call_records s unmade answered refused =
+    flat_map (λ site. unmade_record s site) unmade
+    ++ (asked_records s answered ++ flat_map (λ x. refused_line s x) refused)
+
+-- what never ran, the greatest counts and lengths, and the most varied fields
+abbrev pub row_records : SourceTables → Report → List ℕ
+row_records s r =
+    unrun_records s.claim.image.system r
+    ++ (peak_records s.claim.image.system r ++ varied_records s r.varieties.items)
+
 abbrev pub coverage_records : SourceTables → Report → List CallSite → List AnsweredCall → List Refused → List ℕ
 coverage_records s r unmade answered refused =
-    unsaid_records s r
-    ++ (flat_map (λ site. unmade_record s site) unmade
-    ++ (asked_records s answered
-    ++ (flat_map (λ x. refused_line s x) refused
-    ++ (unrun_records s.claim.image.system r
-    ++ (peak_records s.claim.image.system r ++ varied_records s r.varieties.items)))))
+    unsaid_records s r ++ (call_records s unmade answered refused ++ row_records s r)
 
 -- the by-products of a search: the calls that were not made, answered or refused are those of its states
 abbrev pub covered_records : SourceTables → Report → List ℕ

@@ -1,6 +1,6 @@
 -- The files that a search writes and removes.
 use Rattle.std.specs.Prelude.{ℕ, ◌≡◌, ◌≢◌, ◌<◌, ◌++◌, ◌⊎◌, List, [], ◌∷◌, Option, Some, None, IfSome, Bool, ◌||◌, codes}
-use Rattle.std.specs.Prelude.{map, nat_eq, option_map, unwrap_or, ⊤}
+use Rattle.std.specs.Prelude.{◌^◌, get_or, length, map, nat_eq, option_map, unwrap_or, ⊤}
 use Rattle.std.specs.List.{AllByRecursion, range_with_len}
 use Rattle.fmp_files.specs.Deeds.{Deed, Does, printed, removed, said, wrote}
 use Rattle.fmp_searching.specs.Sources.{steps_name}
@@ -30,6 +30,16 @@ pub record IsApart (e : Exploring) (name : List ℕ) : Type 0 where
 -- the file of the report, if one is asked for, is none of the files that are read
 abbrev pub IsReportApart : Exploring → Type 0
 IsReportApart e = IfSome e.junit (λ name. IsApart e name.now)
+
+-- the file of the report, if one is asked for, is none of steps
+abbrev pub IsReportNoSteps : Exploring → Type 0
+IsReportNoSteps e =
+    IfSome e.junit (λ name. (number : ℕ) → 0 < number → number < 2 ^ 64 →
+    name.now ≢ steps_name (out_name e.cfg.now (option_map (λ n. n.now) e.out)) number)
+
+-- a byte stands nowhere in a text
+abbrev pub HasNo : (byte : ℕ) → (text : List ℕ) → Type 0
+HasNo byte text = (i : ℕ) → i < length text → get_or text i 0 ≢ byte
 
 -- each of these files was written, with its text
 abbrev pub files_written : (names texts : List (List ℕ)) → List Deed

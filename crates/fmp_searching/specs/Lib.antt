@@ -10,6 +10,7 @@ pub mod Fields
 pub mod Files
 pub mod Findings
 pub mod Fresh
+pub mod Inquiries
 pub mod Limits
 pub mod Lines
 pub mod Made

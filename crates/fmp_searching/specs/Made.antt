@@ -15,7 +15,7 @@ use Rattle.fmp_witness.specs.declared.coverage.Coverage.{Coverage}
 use Rattle.fmp_searching.specs.declared.answers.Answered.{Answered}
 use Rattle.fmp_searching.specs.declared.made.SeenCalls.{SeenCalls}
 
--- the same place, as a question has it
+-- the same position, as a question has it
 abbrev pub asked_site : frames.CallSite → CallSite
 asked_site site = record { body = site.body; pc = site.pc }
 

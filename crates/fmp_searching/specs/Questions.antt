@@ -32,7 +32,8 @@ use Rattle.fmp_searching.specs.declared.words.CodeAt.{CodeAt}
 use Rattle.fmp_searching.specs.declared.words.Section.{Section}
 use Rattle.fmp_searching.specs.Limits.{Words, are_counts, are_gaps, limits_in}
 use Rattle.fmp_searching.specs.Limits.{monitors_of as monitors_of_limits}
-use Rattle.fmp_searching.specs.Sites.{TextBody, calls_in}
+use Rattle.fmp_frames.specs.CallPositions.{TextBody}
+use Rattle.fmp_searching.specs.Sites.{calls_in}
 use Rattle.fmp_searching.specs.Words.{never_at_named, never_named, section_named}
 
 -- what words say must never happen anywhere

@@ -10,8 +10,8 @@ use Rattle.fmp_warnings.specs.declared.verdicts.Form.TheVariants as form
 use Rattle.fmp_warnings.specs.declared.verdicts.Shown.{Shown}
 use Rattle.fmp_warnings.specs.declared.verdicts.Shown.TheVariants as shown
 use Rattle.fmp_warnings.specs.Verdicts.{IsShown}
-use Rattle.fmp_searching.specs.Claimed.{HasShown, IsFile, IsNamedFile, OfFiles, OfTexts, PrintsNothing, PrintsOnly}
-use Rattle.fmp_searching.specs.Deeds.{KeepsFiles}
+use Rattle.fmp_searching.specs.Claimed.{HasShown, IsFile, IsNamedFile, OfFiles, OfTexts, PrintsOnly}
+use Rattle.fmp_searching.specs.Deeds.{GivesNothing, KeepsFiles, TellsOnly}
 use Rattle.fmp_searching.specs.Explored.{IsExploring}
 use Rattle.fmp_searching.specs.declared.sources.Exploring.{Exploring}
 
@@ -46,18 +46,19 @@ pub record ShowsFault (files : Files) (e : Exploring) (before after : Option (Li
   pub is_src : names.src.now ≡ e.src.now
   pub shows : ShowsTexts files form.Text names before after
 
--- an exploration of two texts printed nothing, or what its search came to, as far as that works, or what is shown of
--- the texts, and nothing else
+-- an exploration of two texts printed and wrote nothing, or what its search came to, as far as that works; or it
+-- printed what is shown of the texts; and nothing else
 abbrev pub PrintsOfTexts : Files → (cfg src said : List ℕ) → Exploring → (before after : Option (List Deed)) → Type 0
 PrintsOfTexts files cfg src said e before after =
-    PrintsNothing before after
-    ⊎ (OfTexts cfg src said e (λ s. HasShown s before after) ⊎ ShowsFault files e before after)
+    GivesNothing before after
+    ⊎ (OfTexts cfg src said e (λ s. HasShown e s before after)
+    ⊎ (ShowsFault files e before after × TellsOnly before after))
 
 -- the same of the texts of files
 abbrev pub PrintsOfFiles : Files → Exploring → (before after : Option (List Deed)) → Type 0
 PrintsOfFiles files e before after =
-    PrintsNothing before after
-    ⊎ (OfFiles files e (λ s. HasShown s before after) ⊎ ShowsFault files e before after)
+    GivesNothing before after
+    ⊎ (OfFiles files e (λ s. HasShown e s before after) ⊎ (ShowsFault files e before after × TellsOnly before after))
 
 -- what an exploration of these words did, whatever its status
 pub record ExploresWords (files : Files) (rows : List Row) (before after : Option (List Deed)) : Type 0 where

@@ -5,6 +5,7 @@ use Rattle.fmp_expect.specs.declared.expectation.Expected.{Expected}
 use Rattle.fmp_frames.specs.declared.call_positions.CallPosition.{CallPosition}
 use Rattle.fmp_warnings.specs.declared.verdicts.Form.{Form}
 use Rattle.fmp_searching.specs.Claims.{ClaimTables, claim_tables}
+use Rattle.fmp_searching.specs.Sites.{positions_of}
 use Rattle.fmp_searching.specs.declared.naming.LocalNames.{LocalNames}
 use Rattle.fmp_searching.specs.declared.sources.ExploredSources.{ExploredSources}
 
@@ -32,7 +33,7 @@ abbrev pub source_tables : ExploredSources → SourceTables
 source_tables s =
     record {
       claim = claim_tables s.claim;
-      positions = s.positions.now;
+      positions = positions_of s.claim.lines.now;
       names = s.names.now;
       src = s.named.src.now;
       out = s.named.out.now;

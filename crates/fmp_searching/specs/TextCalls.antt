@@ -7,7 +7,7 @@ use Rattle.fmp_image_bytes.specs.Images.{ImageTables}
 use Rattle.fmp_lex.specs.declared.token.Token.{Token}
 use Rattle.fmp_lex.specs.declared.token.TokenKind.{TokenKind}
 use Rattle.fmp_lex.specs.declared.token.TokenKind.TheVariants as kind
-use Rattle.fmp_searching.specs.Sites.{AreBodiesOf, TextBody, is_head}
+use Rattle.fmp_frames.specs.CallPositions.{AreBodiesOf, TextBody, is_head}
 
 -- a service call of a text: the service, and the line of its word
 pub record TextCall : Type 0 where
@@ -34,10 +34,14 @@ services calls = map (λ c. c.service) calls
 abbrev pub lines : List TextCall → List ℕ
 lines calls = map (λ c. c.line) calls
 
+-- the lines of the calls of a body
+abbrev pub call_lines : TextBody → List ℕ
+call_lines b = map (λ c. c.line) b.calls
+
 -- Where two texts build an image, the calls of its code are those of the task text, body by body and in order; and the
 -- lines that are taken for those of the bodies are the lines of these calls.
 abbrev pub CallsHaveLines : Type 0
 CallsHaveLines =
     (cfg src : List ℕ) (i : ImageTables) (b : Builds cfg src i) (bodies : List TextBody) → AreBodiesOf src bodies →
     (map body_calls i.code ≡ map services (text_calls b.tasks.tokens))
-    × (map (λ x. x.calls) bodies ≡ map lines (text_calls b.tasks.tokens))
+    × (map (λ x. call_lines x) bodies ≡ map lines (text_calls b.tasks.tokens))

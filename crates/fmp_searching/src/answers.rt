@@ -5,7 +5,7 @@ ghost use Rattle.fmp_searching.specs.Answers as spec;
 ghost use Rattle.fmp_searching.specs.Made.{answered_call};
 
 use fmp_base::Er;
-use itoa::Buffer;
+use fmp_json::{append, append_number};
 use std::alloc::{AllocError, Global};
 
 /// A call that was made, and what it was answered.
@@ -17,12 +17,6 @@ pub struct Answered {
     pub column: usize,
     /// The codes, each once; none if the call was never answered.
     pub answers: Vec<Er>,
-}
-
-fn append(text: &[u8], out: &mut Vec<u8>) -> Result<(), AllocError>
-    ensures { OnOk result (out.new.items ≡ out.old.items ++ text.now) }
-{
-    out.extend_from_slice(text)
 }
 
 /// Appends a code after a blank.
@@ -55,11 +49,11 @@ fn append_names(answers: &[Er], out: &mut Vec<u8>) -> Result<(), AllocError>
 }
 
 /// Appends a number after a colon.
-fn append_number(number: u64, out: &mut Vec<u8>) -> Result<(), AllocError>
+fn append_after_colon(number: u64, out: &mut Vec<u8>) -> Result<(), AllocError>
     ensures { OnOk result (out.new.items ≡ out.old.items ++ (codes ":" ++ decimal number)) }
 {
     append(b":", out)?;
-    append(Buffer::new().format(number).as_bytes(), out)
+    append_number(number, out)
 }
 
 /// Appends where a call stands in a file.
@@ -68,8 +62,8 @@ fn append_position(src: &[u8], call: &Answered, out: &mut Vec<u8>) -> Result<(),
     ensures { OnOk result (out.new.items ≡ out.old.items ++ spec.position_text src.now (answered_call call.now)) }
 {
     append(src, out)?;
-    append_number(u64::from(call.line), out)?;
-    append_number(call.column as u64, out)
+    append_after_colon(u64::from(call.line), out)?;
+    append_after_colon(call.column as u64, out)
 }
 
 /// Appends where a call stands in this file, and what it got.

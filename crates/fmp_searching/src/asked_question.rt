@@ -1,10 +1,9 @@
 //! The question that the words and the sentences of an exploration ask about an image.
-ghost use Rattle.std.specs.Prelude.{◌≡◌, ◌++◌, IfOk, Ok, OnOk, false, map, true};
+ghost use Rattle.std.specs.Prelude.{◌≡◌, ◌++◌, IfOk, OnOk, false, map, true};
 ghost use Rattle.fmp_base.specs.Names.{name_text};
 ghost use Rattle.fmp_base.specs.Systems.{tables_of};
 ghost use Rattle.fmp_searching.specs.Questions as spec;
-ghost use Rattle.fmp_expect.specs.CallSentences.{other_sentences_of};
-ghost use Rattle.fmp_searching.specs.Questions.{AreKnown, IsAsked, IsQuestionOf, IsQuestionWith, IsWanted};
+ghost use Rattle.fmp_searching.specs.Inquiries.{AreKnownIn, AreWanted, Asks, AsksWith, IsAskedBy, Says};
 
 use crate::asking::{CommandMistake, ExploreChoices};
 use crate::at_calls::{all_codes, are_called_in, codes_of, nevers_at_of};
@@ -18,6 +17,21 @@ use fmp_image_bytes::Image;
 use fmp_monitors::{ExpectedDeed, Happening, Sentence};
 use fmp_schedules::InterruptLimit;
 use std::alloc::{AllocError, Global};
+
+/// What the words of a command and a text of sentences ask about an image.
+#[derive(Clone, Copy)]
+pub struct Inquiry<'a> {
+    /// The words, which are not mistaken.
+    pub wanted: &'a ExploreChoices<'a>,
+    /// The text of the sentences.
+    pub text: &'a [u8],
+    /// The system as its configuration describes it, which names the bodies of handlers.
+    pub configured: &'a System,
+    /// The image that the configuration and the bodies build.
+    pub image: &'a Image,
+    /// Where the calls of its bodies stand in their text.
+    pub lines: &'a CallLines,
+}
 
 /// The faults of bodies, which must never happen.
 const FAULTS: [Never; 3] = [
@@ -171,24 +185,22 @@ fn with_faults(alloc: Global, nevers: &[Never]) -> Result<Vec<Never>, AllocError
     Ok(all)
 }
 
-/// The question of words that are not mistaken, of these sentences, and of these codes at calls.
+/// The question of an inquiry, of these sentences, and of these codes at calls.
 fn question_of(
     alloc: Global,
-    wanted: &ExploreChoices<'_>,
+    inquiry: &Inquiry<'_>,
     expected: &[Expected],
     codes: &[CodeAt],
-    image: &Image,
-    lines: &CallLines,
 ) -> Result<Question, AllocError>
-    requires { IsWanted wanted.now.asked (Ok wanted.now) }
-    ensures { IfOk result (λ q. IsQuestionWith wanted.now.asked expected.now codes.now image.now.system
-        image.now.code lines.now q) }
+    requires { AreWanted inquiry.now }
+    ensures { IfOk result (λ q. AsksWith inquiry.now expected.now codes.now q) }
 {
+    let (wanted, image) = (inquiry.wanted, inquiry.image);
     let asked = &wanted.asked;
     let codes = all_codes(alloc, &wanted.nevers_at, codes)?;
     Ok(Question {
         nevers: with_faults(alloc, &wanted.nevers)?,
-        nevers_at: nevers_at_of(alloc, image, lines, &codes)?,
+        nevers_at: nevers_at_of(alloc, image, inquiry.lines, &codes)?,
         monitors: monitors_of(alloc, &wanted.sections, expected, &wanted.limits)?,
         rest: marks(alloc, &image.system().tasks, asked.rest, expected)?,
         ticks: asked.ticks,
@@ -223,124 +235,93 @@ fn has_end(expected: &[Expected]) -> bool
     false
 }
 
-/// The question of words that are not mistaken, of a text that says this of what is configured, and of its codes at
-/// calls, of each of which there is one.
+/// The question of an inquiry whose text says this, and of its codes at calls, of each of which there is one.
 fn called_question(
     alloc: Global,
-    wanted: &ExploreChoices<'_>,
-    text: &[u8],
-    configured: &System,
+    inquiry: &Inquiry<'_>,
     expected: &[Expected],
     codes: &[CodeAt],
-    image: &Image,
-    lines: &CallLines,
 ) -> Result<Question, AllocError>
-    requires wanted { IsWanted wanted.now.asked (Ok wanted.now) }
-    requires says { other_sentences_of (tables_of configured.now) text.now ≡ Ok expected.now }
+    requires wanted { AreWanted inquiry.now }
+    requires says { Says inquiry.now expected.now }
     requires lasting { spec.has_end expected.now ≡ false }
-    requires codes { codes.now ≡ spec.codes_of (tables_of configured.now) text.now }
-    requires called { spec.are_called image.now.code lines.now codes.now ≡ true }
-    ensures { IfOk result (λ q. IsQuestionOf wanted.now.asked text.now (tables_of configured.now) image.now.system
-        image.now.code lines.now q) }
+    requires codes { codes.now ≡ spec.codes_of (tables_of inquiry.now.configured.now) inquiry.now.text.now }
+    requires called { spec.are_called inquiry.now.image.now.code inquiry.now.lines.now codes.now ≡ true }
+    ensures { IfOk result (λ q. Asks inquiry.now q) }
 {
-    let question = question_of(alloc, wanted, expected, codes, image, lines)?;
+    let question = question_of(alloc, inquiry, expected, codes)?;
     Ok(question)
 }
 
-/// The question of words that are not mistaken, of these sentences of a text, and of its sentences about calls, unless
-/// one of these is about a line without any.
+/// The question of an inquiry whose text has these sentences, and of its sentences about calls, unless one of these is
+/// about a line without any.
 fn question_at_calls(
     alloc: Global,
-    wanted: &ExploreChoices<'_>,
-    text: &[u8],
-    configured: &System,
+    inquiry: &Inquiry<'_>,
     expected: &[Expected],
-    image: &Image,
-    lines: &CallLines,
 ) -> Result<Result<Question, CommandMistake>, AllocError>
-    requires wanted { IsWanted wanted.now.asked (Ok wanted.now) }
-    requires known { AreKnown wanted.now.asked image.now.system image.now.code lines.now }
-    requires says { other_sentences_of (tables_of configured.now) text.now ≡ Ok expected.now }
+    requires wanted { AreWanted inquiry.now }
+    requires known { AreKnownIn inquiry.now }
+    requires says { Says inquiry.now expected.now }
     requires lasting { spec.has_end expected.now ≡ false }
-    ensures { IfOk result (λ q. IsAsked wanted.now.asked text.now (tables_of configured.now) image.now.system
-        image.now.code lines.now q) }
+    ensures { IfOk result (λ asked. IsAskedBy inquiry.now asked) }
 {
-    let codes = codes_of(alloc, configured, text)?;
-    if !are_called_in(alloc, image, lines, &codes)? {
+    let codes = codes_of(alloc, inquiry.configured, inquiry.text)?;
+    if !are_called_in(alloc, inquiry.image, inquiry.lines, &codes)? {
         return Ok(Err(CommandMistake::SentenceCall));
     }
-    let question = called_question(
-        alloc, wanted, text, configured, expected, &codes, image, lines,
-    )?;
+    let question = called_question(alloc, inquiry, expected, &codes)?;
     Ok(Ok(question))
 }
 
-/// The question of words that are not mistaken, and of the sentences that a text says of what is configured, unless one
-/// of these is about the end of a run.
+/// The question of an inquiry whose text has these sentences, unless one of these is about the end of a run.
 fn lasting_question(
     alloc: Global,
-    wanted: &ExploreChoices<'_>,
-    text: &[u8],
-    configured: &System,
+    inquiry: &Inquiry<'_>,
     expected: &[Expected],
-    image: &Image,
-    lines: &CallLines,
 ) -> Result<Result<Question, CommandMistake>, AllocError>
-    requires wanted { IsWanted wanted.now.asked (Ok wanted.now) }
-    requires known { AreKnown wanted.now.asked image.now.system image.now.code lines.now }
-    requires says { other_sentences_of (tables_of configured.now) text.now ≡ Ok expected.now }
-    ensures { IfOk result (λ q. IsAsked wanted.now.asked text.now (tables_of configured.now) image.now.system
-        image.now.code lines.now q) }
+    requires wanted { AreWanted inquiry.now }
+    requires known { AreKnownIn inquiry.now }
+    requires says { Says inquiry.now expected.now }
+    ensures { IfOk result (λ asked. IsAskedBy inquiry.now asked) }
 {
     if has_end(expected) {
         return Ok(Err(CommandMistake::End));
     }
-    question_at_calls(alloc, wanted, text, configured, expected, image, lines)
+    question_at_calls(alloc, inquiry, expected)
 }
 
-/// The question of words that are not mistaken, and of the sentences of a text about what is configured.
+/// The question of an inquiry whose words name tasks, and lines with calls.
 fn said_question(
     alloc: Global,
-    wanted: &ExploreChoices<'_>,
-    text: &[u8],
-    configured: &System,
-    image: &Image,
-    lines: &CallLines,
+    inquiry: &Inquiry<'_>,
 ) -> Result<Result<Question, CommandMistake>, AllocError>
-    requires wanted { IsWanted wanted.now.asked (Ok wanted.now) }
-    requires known { AreKnown wanted.now.asked image.now.system image.now.code lines.now }
-    ensures { IfOk result (λ q. IsAsked wanted.now.asked text.now (tables_of configured.now) image.now.system
-        image.now.code lines.now q) }
+    requires wanted { AreWanted inquiry.now }
+    requires known { AreKnownIn inquiry.now }
+    ensures { IfOk result (λ asked. IsAskedBy inquiry.now asked) }
 {
-    match read_other_sentences(alloc, configured, text) {
-        Ok(expected) => {
-            lasting_question(alloc, wanted, text, configured, &expected, image, lines)
-        }
+    match read_other_sentences(alloc, inquiry.configured, inquiry.text) {
+        Ok(expected) => lasting_question(alloc, inquiry, &expected),
         Err(ExpectFault::Memory) => Err(AllocError),
         Err(ExpectFault::Line { line, flaw }) => Ok(Err(CommandMistake::Sentence { line, flaw })),
     }
 }
 
-/// The question of the words of a command, and of the sentences of a text about what is configured, on an image whose
-/// bodies' calls stand in these lines; or what is mistaken: words that name tasks are read first, and the text last.
-/// The image is built of the configuration, which names the bodies. `AllocError` if memory runs out.
+/// The question of an inquiry, or what is mistaken in it: words that name tasks are read first, and the text last.
+/// `AllocError` if memory runs out.
 pub fn question_by(
     alloc: Global,
-    wanted: &ExploreChoices<'_>,
-    text: &[u8],
-    configured: &System,
-    image: &Image,
-    lines: &CallLines,
+    inquiry: &Inquiry<'_>,
 ) -> Result<Result<Question, CommandMistake>, AllocError>
-    requires { IsWanted wanted.now.asked (Ok wanted.now) }
-    ensures { IfOk result (λ q. IsAsked wanted.now.asked text.now (tables_of configured.now) image.now.system
-        image.now.code lines.now q) }
+    requires { AreWanted inquiry.now }
+    ensures { IfOk result (λ asked. IsAskedBy inquiry.now asked) }
 {
-    if !are_tasks(&image.system().tasks, wanted.asked.rest) {
+    let wanted = inquiry.wanted;
+    if !are_tasks(&inquiry.image.system().tasks, wanted.asked.rest) {
         return Ok(Err(CommandMistake::Rest));
     }
-    if !are_called_in(alloc, image, lines, &wanted.nevers_at)? {
+    if !are_called_in(alloc, inquiry.image, inquiry.lines, &wanted.nevers_at)? {
         return Ok(Err(CommandMistake::Call));
     }
-    said_question(alloc, wanted, text, configured, image, lines)
+    said_question(alloc, inquiry)
 }

@@ -7,11 +7,11 @@ ghost use Rattle.fmp_searching.specs.Said as said;
 ghost use Rattle.fmp_searching.specs.Seen as spec;
 ghost use Rattle.fmp_searching.specs.Sources.{source_tables};
 
-use crate::claiming::append_number;
 use crate::sources::{ExploredSources, say};
 use fmp_base::{Caller, Er, Line, System};
 use fmp_expect::CallSentence;
 use fmp_explore::{CallSite, Finding, FindingKind, NeverAt};
+use fmp_json::append_number;
 use fmp_named::append_task;
 use fmp_question::first_forbidden;
 use std::alloc::{AllocError, Global};
@@ -142,7 +142,7 @@ pub fn broken_by(
     }
 }
 
-/// Whether two places of calls are one.
+/// Whether two positions of calls are one.
 fn is_same_site(one: CallSite, other: CallSite) -> bool
     ensures { result ≡ spec.is_same_site one other }
 {

@@ -13,27 +13,15 @@ use crate::sources::Claim;
 use fmp_base::{Fault, Service, System, TaskConfig};
 use fmp_code::{Code, Instruction};
 use fmp_explore::{CallSite, Never, NeverAt, Question, Report};
+use fmp_json::{append, append_number, append_signed};
 use fmp_named::append_task;
-use itoa::Buffer;
 use std::alloc::{AllocError, Global};
 
-/// Appends text.
-pub(crate) fn append(text: &[u8], out: &mut Vec<u8>) -> Result<(), AllocError>
-    ensures { OnOk result (out.new.items ≡ out.old.items ++ text.now) }
-{
-    out.extend_from_slice(text)
-}
-
-pub(crate) fn append_number(number: u64, out: &mut Vec<u8>) -> Result<(), AllocError>
-    ensures { OnOk result (out.new.items ≡ out.old.items ++ decimal number) }
-{
-    append(Buffer::new().format(number).as_bytes(), out)
-}
-
+/// Appends a value in decimal digits, with its sign if it is negative.
 pub(crate) fn append_value(value: i32, out: &mut Vec<u8>) -> Result<(), AllocError>
     ensures { OnOk result (out.new.items ≡ out.old.items ++ signed_decimal value) }
 {
-    append(Buffer::new().format(value).as_bytes(), out)
+    append_signed(i64::from(value), out)
 }
 
 /// Appends what must never happen; of a fault nothing.
@@ -73,7 +61,7 @@ fn append_nevers(sys: &System, nevers: &[Never], out: &mut Vec<u8>) -> Result<()
     Ok(())
 }
 
-/// The service that is called at a place of the code, if one is.
+/// The service that is called at a position of the code, if one is.
 fn service_at(code: &Code, site: CallSite) -> Option<Service>
     ensures { result ≡ spec.service_at (code_tables code.now) site }
 {
@@ -84,7 +72,7 @@ fn service_at(code: &Code, site: CallSite) -> Option<Service>
     }
 }
 
-/// Appends a call by the service and its line, or else by its place.
+/// Appends a call by the service and its line, or else by its position.
 #[tactic(auto, unfolding(crate::specs::Claims::call_text))]
 fn append_call(
     site: CallSite,

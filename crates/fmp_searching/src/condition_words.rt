@@ -6,9 +6,10 @@ ghost use Rattle.fmp_monitors.specs.Conditions.{tests_of};
 ghost use Rattle.fmp_expect.specs.Written as written;
 ghost use Rattle.fmp_searching.specs.Sentences as spec;
 
-use crate::claiming::{append, append_number, append_value, append_where};
+use crate::claiming::{append_value, append_where};
 use crate::sentences::append_named;
 use fmp_base::{Name, System};
+use fmp_json::{append, append_number};
 use fmp_monitors::{Condition, ConditionTest, MAX_TESTS, Measure, Relation, TestedFact};
 use fmp_named::append_task;
 use std::alloc::{AllocError, Global};

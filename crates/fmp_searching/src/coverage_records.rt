@@ -18,7 +18,7 @@ use crate::records::{call_position, write_number, write_position};
 use crate::refused::refused_in;
 use crate::sentences::append_sentence;
 use crate::sources::ExploredSources;
-use crate::unsaid::{is_complete, is_unsaid};
+use crate::unsaid::{Watched, is_complete, is_unsaid};
 use crate::varied::append_varied;
 use crate::varieties::{is_varied, most_values};
 use fmp_base::{Er, System};
@@ -149,9 +149,8 @@ fn append_one_refused(
 {
     let file = sources.named.src.as_bytes();
     let code = sources.claim.image.code();
-    let position = sources
-        .positions
-        .position(code, call.site.body, call.site.pc);
+    let (lines, site) = (sources.claim.lines, call.site);
+    let position = lines.position(code, site.body, site.pc);
     append_refused(alloc, LineForm::Record, file, position, call, out)
 }
 
@@ -215,22 +214,21 @@ fn append_nothing(
     append_finished(writer, out)
 }
 
-/// Appends the sentence of the monitor at a place, if it says nothing, by whether what it speaks of came.
+/// Appends the sentence of a monitor, if it says nothing.
 fn append_unsaid(
     alloc: Global,
     out: &mut Vec<u8>,
     sources: &ExploredSources<'_>,
-    place: usize,
-    monitor: &Monitor,
-    came: bool,
+    watched: Watched,
 ) -> Result<(), AllocError>
-    ensures { OnOk result (out.new.items
-        ≡ out.old.items ++ spec.unsaid_record (source_tables sources.now) place monitor.now came) }
+    ensures { OnOk result (out.new.items ≡ out.old.items
+        ++ spec.unsaid_record (source_tables sources.now) watched.place watched.monitor watched.came) }
 {
-    if !is_unsaid(&monitor.subject, came) {
+    let (place, subject) = (watched.place, &watched.monitor.subject);
+    if !is_unsaid(subject, watched.came) {
         return Ok(());
     }
-    match &monitor.subject {
+    match subject {
         MonitorSubject::Sentence(sentence) => append_nothing(alloc, out, sources, place, sentence),
         MonitorSubject::Limit(_) => Ok(()),
     }
@@ -251,14 +249,13 @@ fn append_each_unsaid(
 {
     let count = monitors.len().min(premises.len());
     for place in 0..count {
-        append_unsaid(
-            alloc,
-            out,
-            sources,
+        let (monitor, came) = (monitors[place], premises[place]);
+        let watched = Watched {
             place,
-            &monitors[place],
-            premises[place],
-        )?;
+            monitor,
+            came,
+        };
+        append_unsaid(alloc, out, sources, watched)?;
     }
     Ok(())
 }
@@ -321,25 +318,34 @@ fn append_varieties(
     Ok(())
 }
 
-/// Appends the by-products of a search, in whose states these calls were never made, got these codes, and answers.
-fn append_records(
+/// Appends the calls that were never made, the codes that calls got, if they are asked for, and the calls that are
+/// refused.
+fn append_calls(
+    alloc: Global,
+    out: &mut Vec<u8>,
+    sources: &ExploredSources<'_>,
+    calls: &SeenCalls,
+) -> Result<(), AllocError>
+    ensures { OnOk result (out.new.items ≡ out.old.items
+        ++ spec.call_records (source_tables sources.now) calls.now.unmade.items
+        (map answered_call calls.now.answered.items)
+        (refused_calls (source_tables sources.now).claim.image.code calls.now.answers.items)) }
+{
+    append_all_unmade(alloc, out, sources, &calls.unmade)?;
+    append_answers(alloc, out, sources, &calls.answered)?;
+    append_all_refused(alloc, out, sources, &calls.answers)
+}
+
+/// Appends what never ran, how full objects ever were, and the most varied fields.
+fn append_rows(
     alloc: Global,
     out: &mut Vec<u8>,
     sources: &ExploredSources<'_>,
     report: &Report,
-    unmade: &[CallSite],
-    answered: &[Answered],
-    answers: &[SiteAnswer],
 ) -> Result<(), AllocError>
-    ensures { OnOk result (out.new.items ≡ out.old.items ++ spec.coverage_records (source_tables sources.now)
-        report.now unmade.now (map answered_call answered.now)
-        (refused_calls (source_tables sources.now).claim.image.code answers.now)) }
+    ensures { OnOk result (out.new.items ≡ out.old.items ++ spec.row_records (source_tables sources.now) report.now) }
 {
     let sys = sources.claim.image.system();
-    append_all_unsaid(alloc, out, sources, report)?;
-    append_all_unmade(alloc, out, sources, unmade)?;
-    append_answers(alloc, out, sources, answered)?;
-    append_all_refused(alloc, out, sources, answers)?;
     append_unrun(alloc, out, sys, report)?;
     append_peaks(alloc, out, sys, report)?;
     append_varieties(alloc, out, sources, &report.varieties)
@@ -357,15 +363,9 @@ fn append_coverage(
         report.now calls.now.unmade.items (map answered_call calls.now.answered.items)
         (refused_calls (source_tables sources.now).claim.image.code calls.now.answers.items)) }
 {
-    append_records(
-        alloc,
-        out,
-        sources,
-        report,
-        &calls.unmade,
-        &calls.answered,
-        &calls.answers,
-    )
+    append_all_unsaid(alloc, out, sources, report)?;
+    append_calls(alloc, out, sources, calls)?;
+    append_rows(alloc, out, sources, report)
 }
 
 /// The by-products of a search, as objects of JSON, one a line. `AllocError` if memory runs out.

@@ -9,16 +9,16 @@ ghost use Rattle.fmp_searching.specs.Made.{answered_call};
 ghost use Rattle.fmp_searching.specs.Sources.{source_tables};
 
 use crate::answers::{Answered, append_answers};
-use crate::claiming::append_number;
+use crate::counts::Count;
 use crate::made::{SeenCalls, seen_calls};
 use crate::refused::say_refused;
 use crate::sources::{ExploredSources, say, say_call};
 use crate::unsaid::is_complete;
-use fmp_base::{
-    CyclicConfig, DataQueueConfig, MailboxConfig, Name, SemaphoreConfig, System, TaskConfig,
-};
+use fmp_base::{Name, System};
 use fmp_explore::{CallSite, Report};
 use fmp_frames::SiteAnswer;
+use fmp_json::append_number;
+use fmp_scopes::HasName;
 use std::alloc::{AllocError, Global};
 
 /// What ends the noun of a count.
@@ -186,32 +186,15 @@ fn say_unrun_word(out: &mut Vec<u8>, name: Name, ran: bool) -> Result<(), AllocE
     out.extend_from_slice(name.as_bytes())
 }
 
-/// Appends the names of the tasks that never ran.
+/// Appends the names of the rows of a table that never ran.
 #[tactic(auto, using(crate::proofs::SeenLists::numbered_at))]
-fn say_unrun_tasks(out: &mut Vec<u8>, tasks: &[TaskConfig], ran: &[bool]) -> Result<(), AllocError>
+fn say_unrun_rows<T: HasName>(out: &mut Vec<u8>, rows: &[T], ran: &[bool]) -> Result<(), AllocError>
     ensures { OnOk result (out.new.items
-        ≡ out.old.items ++ numbered (λ _ x ran. spec.unrun_word x.name ran) 0 tasks.now ran.now) }
+        ≡ out.old.items ++ numbered (λ _ x ran. spec.unrun_word (T.name_of x) ran) 0 rows.now ran.now) }
 {
-    let count = tasks.len().min(ran.len());
-    for t in 0..count {
-        say_unrun_word(out, tasks[t].name, ran[t])?;
-    }
-    Ok(())
-}
-
-/// Appends the names of the cyclic handlers that never ran.
-#[tactic(auto, using(crate::proofs::SeenLists::numbered_at))]
-fn say_unrun_cyclics(
-    out: &mut Vec<u8>,
-    cyclics: &[CyclicConfig],
-    ran: &[bool],
-) -> Result<(), AllocError>
-    ensures { OnOk result (out.new.items
-        ≡ out.old.items ++ numbered (λ _ x ran. spec.unrun_word x.name ran) 0 cyclics.now ran.now) }
-{
-    let count = cyclics.len().min(ran.len());
-    for c in 0..count {
-        say_unrun_word(out, cyclics[c].name, ran[c])?;
+    let count = rows.len().min(ran.len());
+    for i in 0..count {
+        say_unrun_word(out, *rows[i].name(), ran[i])?;
     }
     Ok(())
 }
@@ -226,8 +209,8 @@ fn say_unrun(
     ensures { OnOk result (out.new.items ≡ out.old.items ++ spec.unrun_text (tables_of sys.now) report.now) }
 {
     let mut words = Vec::new(alloc);
-    say_unrun_tasks(&mut words, &sys.tasks, &report.coverage.runs.tasks)?;
-    say_unrun_cyclics(&mut words, &sys.cyclics, &report.coverage.runs.cyclics)?;
+    say_unrun_rows(&mut words, &sys.tasks, &report.coverage.runs.tasks)?;
+    say_unrun_rows(&mut words, &sys.cyclics, &report.coverage.runs.cyclics)?;
     say_row(out, "never run:", &words)
 }
 
@@ -242,53 +225,19 @@ fn say_peak(out: &mut Vec<u8>, name: Name, most: u64) -> Result<(), AllocError>
     append_number(most, out)
 }
 
-/// Appends the greatest count of each of these semaphores.
+/// Appends the greatest count or length of each row of a table, after its name.
 #[tactic(auto, using(crate::proofs::SeenLists::numbered_at))]
-fn say_semaphore_peaks(
+fn say_row_peaks<T: HasName, N: Count>(
     out: &mut Vec<u8>,
-    semaphores: &[SemaphoreConfig],
-    counts: &[u16],
+    rows: &[T],
+    peaks: &[N],
 ) -> Result<(), AllocError>
-    ensures { OnOk result (out.new.items
-        ≡ out.old.items ++ numbered (λ _ x most. spec.peak_words x.name most) 0 semaphores.now counts.now) }
+    ensures { OnOk result (out.new.items ≡ out.old.items
+        ++ numbered (λ _ x most. spec.peak_words (T.name_of x) (N.number most)) 0 rows.now peaks.now) }
 {
-    let count = semaphores.len().min(counts.len());
+    let count = rows.len().min(peaks.len());
     for i in 0..count {
-        say_peak(out, semaphores[i].name, u64::from(counts[i]))?;
-    }
-    Ok(())
-}
-
-/// Appends the greatest length of each of these data queues.
-#[tactic(auto, using(crate::proofs::SeenLists::numbered_at))]
-fn say_queue_peaks(
-    out: &mut Vec<u8>,
-    queues: &[DataQueueConfig],
-    words: &[u8],
-) -> Result<(), AllocError>
-    ensures { OnOk result (out.new.items
-        ≡ out.old.items ++ numbered (λ _ x most. spec.peak_words x.name most) 0 queues.now words.now) }
-{
-    let count = queues.len().min(words.len());
-    for i in 0..count {
-        say_peak(out, queues[i].name, u64::from(words[i]))?;
-    }
-    Ok(())
-}
-
-/// Appends the greatest length of each of these mailboxes.
-#[tactic(auto, using(crate::proofs::SeenLists::numbered_at))]
-fn say_mailbox_peaks(
-    out: &mut Vec<u8>,
-    mailboxes: &[MailboxConfig],
-    messages: &[u8],
-) -> Result<(), AllocError>
-    ensures { OnOk result (out.new.items
-        ≡ out.old.items ++ numbered (λ _ x most. spec.peak_words x.name most) 0 mailboxes.now messages.now) }
-{
-    let count = mailboxes.len().min(messages.len());
-    for i in 0..count {
-        say_peak(out, mailboxes[i].name, u64::from(messages[i]))?;
+        say_peak(out, *rows[i].name(), peaks[i].count())?;
     }
     Ok(())
 }
@@ -299,7 +248,7 @@ fn count_words(alloc: Global, sys: &System, report: &Report) -> Result<Vec<u8>, 
         (tables_of sys.now).semaphores report.now.coverage.peaks.counts.items) }
 {
     let mut words = Vec::new(alloc);
-    say_semaphore_peaks(&mut words, &sys.semaphores, &report.coverage.peaks.counts)?;
+    say_row_peaks(&mut words, &sys.semaphores, &report.coverage.peaks.counts)?;
     Ok(words)
 }
 
@@ -326,8 +275,8 @@ fn say_lengths(
     ensures { OnOk result (out.new.items ≡ out.old.items ++ spec.lengths_text (tables_of sys.now) report.now) }
 {
     let mut words = Vec::new(alloc);
-    say_queue_peaks(&mut words, &sys.data_queues, &report.coverage.peaks.words)?;
-    say_mailbox_peaks(&mut words, &sys.mailboxes, &report.coverage.peaks.messages)?;
+    say_row_peaks(&mut words, &sys.data_queues, &report.coverage.peaks.words)?;
+    say_row_peaks(&mut words, &sys.mailboxes, &report.coverage.peaks.messages)?;
     say_row(out, "greatest lengths:", &words)
 }
 

@@ -136,22 +136,47 @@ fn write_extent(writer: &mut Writer, stopped: &str, report: &Report) -> Result<(
     number_member(writer, "depth", u64::from(report.depth))
 }
 
-/// How a search ended, with these texts, as an object of JSON.
+/// What is said of the end of a search, as lines.
+#[derive(Drop)]
+struct EndLines {
+    /// What it claims; empty where that is nothing.
+    claim: String,
+    /// Why it claims nothing, or did not look for stuck tasks; empty if it did both, or the reason is a finding.
+    stopped: String,
+    /// The parts of what it claims, or would.
+    parts: Vec<String>,
+}
+
+/// What is said of the end of a search.
+fn end_lines(alloc: Global, claim: &Claim<'_>, report: &Report) -> Result<EndLines, AllocError>
+    ensures claim { IfOk result (λ lines.
+        string_bytes lines.claim ≡ spec.claim_line (claim_tables claim.now) report.now) }
+    ensures stopped { IfOk result (λ lines.
+        string_bytes lines.stopped ≡ spec.stop_line claim.now.question.now report.now) }
+    ensures parts { IfOk result (λ lines. map string_bytes lines.parts.items
+        ≡ map (λ part. utf8_lossy part) (claim_parts (claim_tables claim.now))) }
+{
+    Ok(EndLines {
+        claim: claim_line(alloc, claim, report)?,
+        stopped: stop_line(alloc, claim.question, report)?,
+        parts: part_strings(alloc, claim)?,
+    })
+}
+
+/// How a search ended, with these lines, as an object of JSON.
 fn end_line(
     alloc: Global,
     status: u8,
-    claim: &str,
-    stopped: &str,
-    parts: &[String],
+    lines: &EndLines,
     report: &Report,
 ) -> Result<Vec<u8>, AllocError>
-    ensures { IfOk result (λ line. line.items
-        ≡ spec.end_line status claim.now stopped.now (map string_bytes parts.now) report.now) }
+    ensures { IfOk result (λ line. line.items ≡ spec.end_line status (string_bytes lines.now.claim)
+        (string_bytes lines.now.stopped) (map string_bytes lines.now.parts.items) report.now) }
 {
     let mut writer = begin(alloc)?;
-    write_claim(&mut writer, status, claim)?;
-    write_parts(&mut writer, parts)?;
-    write_extent(&mut writer, stopped, report)?;
+    write_claim(&mut writer, status, lines.claim.as_str())?;
+    write_parts(&mut writer, &lines.parts)?;
+    write_extent(&mut writer, lines.stopped.as_str(), report)?;
     finish(writer)
 }
 
@@ -163,18 +188,7 @@ pub fn end_record(
 ) -> Result<Vec<u8>, AllocError>
     ensures { IfOk result (λ line. line.items ≡ spec.end_record (source_tables sources.now) report.now) }
 {
-    let question = sources.claim.question;
-    let claim = claim_line(alloc, &sources.claim, report)?;
-    let stopped = stop_line(alloc, question, report)?;
-    let parts = part_strings(alloc, &sources.claim)?;
-    let unsaid = counts_unsaid(sources.named.strict, question, report);
-    let status = status_of(unsaid, report);
-    end_line(
-        alloc,
-        status,
-        claim.as_str(),
-        stopped.as_str(),
-        &parts,
-        report,
-    )
+    let lines = end_lines(alloc, &sources.claim, report)?;
+    let unsaid = counts_unsaid(sources.named.strict, sources.claim.question, report);
+    end_line(alloc, status_of(unsaid, report), &lines, report)
 }

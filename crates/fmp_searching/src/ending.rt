@@ -4,9 +4,10 @@ ghost use Rattle.std.specs.List.{list_any};
 ghost use Rattle.fmp_searching.specs.Claims as spec;
 ghost use Rattle.fmp_searching.specs.Claims.{claim_tables};
 
-use crate::claiming::{append, append_claim, append_number};
+use crate::claiming::append_claim;
 use crate::sources::Claim;
 use fmp_explore::{Ending, Finding, FindingKind, Question, Report, SearchLimit, StuckSearch};
+use fmp_json::{append, append_number};
 use std::alloc::{AllocError, Global};
 
 /// What is said of a search that found nothing and claims nothing, though it was not stopped.

@@ -6,6 +6,7 @@ ghost use Rattle.clap.specs.Words.{first_of, found_of, rows_of};
 ghost use Rattle.fmp_searching.specs.Explored.{IsAsked, IsExploring, IsForm, ticks_by};
 ghost use Rattle.fmp_searching.specs.Mistakes as spec;
 
+use crate::asked_question::Inquiry;
 use crate::asking::{CommandMistake, ExploreWords};
 use crate::explore_form::explore_command;
 use crate::limits::{count_named, gap_named};
@@ -251,17 +252,17 @@ fn said_of_mistake(
     }
 }
 
-/// What is said of words that ask for no question about an image, whose bodies' calls stand in these lines.
+/// What is said of the words of an inquiry that ask for no question about its image.
 fn said_of_image(
     alloc: Global,
-    asked: &ExploreWords<'_>,
-    (image, lines): (&Image, &CallLines),
+    inquiry: &Inquiry<'_>,
     mistake: CommandMistake,
 ) -> Result<String, AllocError> {
+    let (asked, image) = (&inquiry.wanted.asked, inquiry.image);
     let tasks = &image.system().tasks;
     match mistake {
         CommandMistake::Rest => said_of_task(alloc, NO_TASK, wrong_task(asked.rest, tasks), tasks),
-        CommandMistake::Call => said_of_calls(alloc, asked.nevers, image, lines),
+        CommandMistake::Call => said_of_calls(alloc, asked.nevers, image, inquiry.lines),
         mistake => said_of_mistake(alloc, asked, mistake),
     }
 }
@@ -276,15 +277,13 @@ pub fn no_question(
     wrong_words(alloc, &why)
 }
 
-/// The error for words that ask for no question about an image, whose bodies' calls stand in these lines. It has the
-/// status 2.
+/// The error for words of an inquiry that ask for no question about its image. It has the status 2.
 pub fn no_question_of(
     alloc: Global,
-    asked: &ExploreWords<'_>,
-    of: (&Image, &CallLines),
+    inquiry: &Inquiry<'_>,
     mistake: CommandMistake,
 ) -> Result<Error, AllocError> {
-    let why = said_of_image(alloc, asked, of, mistake)?;
+    let why = said_of_image(alloc, inquiry, mistake)?;
     wrong_words(alloc, &why)
 }
 

@@ -4,10 +4,10 @@ ghost use Rattle.fmp_searching.specs.Claims.{claim_tables};
 ghost use Rattle.fmp_searching.specs.Findings as spec;
 ghost use Rattle.fmp_searching.specs.Sources.{source_tables, steps_name};
 
-use crate::claiming::append_number;
 use crate::seen::Seen;
 use crate::sources::{ExploredSources, say, say_position};
 use fmp_explore::{CallSite, Finding, FindingKind};
+use fmp_json::append_number;
 use std::alloc::AllocError;
 
 /// The line of a finding: of its call, or of the head of the body that goes on for ever.

@@ -5,17 +5,16 @@ ghost use Rattle.std.specs.List.{AllByRecursion};
 ghost use Rattle.fmp_files.specs.Deeds.{Does};
 ghost use Rattle.fmp_files.specs.Prints.{Prints};
 ghost use Rattle.fmp_searching.specs.Claimed.{Gives, PrintsAll, PrintsNothing, PrintsOnly};
-ghost use Rattle.fmp_searching.specs.Deeds.{DoesOnly, MayDo};
-ghost use Rattle.fmp_searching.specs.Files.{IsApart, IsReportApart, RemovesSteps, files_written, is_refusal};
-ghost use Rattle.fmp_searching.specs.Files.{report_written};
+ghost use Rattle.fmp_searching.specs.Deeds.{DoesOnly, MayDo, WritesResult};
+ghost use Rattle.fmp_searching.specs.Files.{IsApart, IsReportApart, files_written, is_refusal, report_written};
 ghost use Rattle.fmp_searching.specs.Files as spec;
 
 use crate::exploration::steps_over_input;
 use crate::exploring::Explored;
 use crate::sources::Exploring;
-use crate::steps_files::{is_over_input, remove_earlier, steps_names, write_steps};
+use crate::steps_files::{is_over_input, steps_names, write_steps};
 use fmp_files::{Failure, Outside, end, print, refuse_mistake, write_file};
-use std::alloc::{AllocError, Global};
+use std::alloc::Global;
 
 /// Writes the steps texts of an exploration to the files of these names, and gives its status, or that of what went
 /// wrong. None is written if one of the files is read.
@@ -30,6 +29,9 @@ fn give_steps<O: Outside>(
     ensures quiet { PrintsNothing (O.done outside.old) (O.done outside.new) }
     ensures keeps { (out : List ℕ) (count : ℕ) → map string_bytes names.now ≡ spec.steps_names out count →
         DoesOnly (MayDo exploring.now out) (O.done outside.old) (O.done outside.new) }
+    ensures writes { (out : List ℕ) → map string_bytes names.now
+        ≡ spec.steps_names out (length explored.now.steps.items) →
+        DoesOnly (WritesResult exploring.now out explored.now) (O.done outside.old) (O.done outside.new) }
     ensures written { is_refusal result ≡ false → (result ≡ explored.now.status)
         × AllByRecursion (IsApart exploring.now) (map string_bytes names.now)
         × Does (O.done outside.old) (files_written (map string_bytes names.now)
@@ -55,6 +57,8 @@ pub fn write_report<O: Outside>(
     ensures quiet { PrintsNothing (O.done outside.old) (O.done outside.new) }
     ensures keeps { (out : List ℕ) → IsReportApart exploring.now →
         DoesOnly (MayDo exploring.now out) (O.done outside.old) (O.done outside.new) }
+    ensures writes { (out : List ℕ) →
+        DoesOnly (WritesResult exploring.now out explored.now) (O.done outside.old) (O.done outside.new) }
     ensures written { result ≡ 0 → Does (O.done outside.old)
         (report_written (option_map (λ name. name.now) exploring.now.junit)
         (option_map (λ out. out.items) explored.now.report)) (O.done outside.new) }
@@ -91,6 +95,8 @@ pub fn give<O: Outside>(
     ensures status { result ≡ 0 → explored.now.status ≡ 0 }
     ensures text { PrintsOnly explored.now.text.items (O.done outside.old) (O.done outside.new) }
     ensures keeps { DoesOnly (MayDo exploring.now out.now) (O.done outside.old) (O.done outside.new) }
+    ensures writes { DoesOnly (WritesResult exploring.now out.now explored.now)
+        (O.done outside.old) (O.done outside.new) }
     ensures printed { result ≡ 0 → explored.now.steps.items ≡ [] →
         Prints (O.done outside.old) explored.now.text.items (O.done outside.new) }
     ensures mistaken { result ≡ 2 →
@@ -109,18 +115,4 @@ pub fn give<O: Outside>(
         Ok(names) => give_steps(alloc, outside, &names, exploring, explored),
         Err(error) => end(outside, &Failure::Memory(error)),
     }
-}
-
-/// Removes the files of steps of an earlier search whose numbers come after those of these steps texts.
-pub fn remove_after<O: Outside>(
-    alloc: Global,
-    outside: &mut O,
-    out: &str,
-    steps: &[Vec<u8>],
-    exploring: &Exploring<'_>,
-    processors: u8,
-) -> Result<(), AllocError>
-    ensures { RemovesSteps exploring.now out.now (length steps.now) (O.done outside.old) (O.done outside.new) }
-{
-    remove_earlier(alloc, outside, out, steps.len(), exploring, processors)
 }

@@ -5,12 +5,13 @@ ghost use Rattle.fmp_searching.specs.Extent.{said_text, value_of, words_of};
 ghost use Rattle.fmp_searching.specs.Said as spec;
 ghost use Rattle.fmp_searching.specs.Sources.{source_tables};
 
-use crate::claiming::{append_number, append_value};
+use crate::claiming::append_value;
 use crate::sentences::append_sentence;
 use crate::sources::{ExploredSources, say, say_position};
 use fmp_base::{Line, System};
 use fmp_expect::Expected;
 use fmp_explore::{CallSite, FindingKind, Left, Monitor, SentenceBreach, Started};
+use fmp_json::append_number;
 use fmp_monitors::{ExpectedDeed, Happening, Sentence, Standing};
 use fmp_named::append_task;
 use fmp_schedules::MonitorSubject;

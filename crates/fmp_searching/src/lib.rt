@@ -10,6 +10,7 @@ mod at_calls;
 mod call_sentences;
 mod claiming;
 mod condition_words;
+mod counts;
 mod coverage_records;
 mod covering;
 mod end_records;

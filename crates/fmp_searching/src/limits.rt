@@ -2,9 +2,9 @@
 ghost use Rattle.std.specs.Prelude.{◌≡◌, ◌++◌, IfOk, OnOk};
 ghost use Rattle.fmp_searching.specs.Limits as spec;
 
-use crate::claiming::{append, append_number};
 use crate::words::{number_named, parts_at_colon};
 use fmp_explore::Monitor;
+use fmp_json::{append, append_number};
 use fmp_schedules::{InterruptLimit, MonitorSubject};
 use std::alloc::{AllocError, Global};
 

@@ -2,9 +2,10 @@
 ghost use Rattle.std.specs.Prelude.{◌≡◌, ◌++◌, OnOk, decimal};
 ghost use Rattle.fmp_searching.specs.Claims as spec;
 
-use crate::claiming::{append, append_number, append_where};
+use crate::claiming::append_where;
 use crate::limits::append_limits;
 use fmp_explore::{Question, Ticks};
+use fmp_json::{append, append_number};
 use std::alloc::AllocError;
 
 /// The word for this many interrupts.

@@ -3,6 +3,7 @@ ghost use Rattle.std.specs.Prelude.{◌≡◌, ◌++◌, IfOk, OnOk, map};
 ghost use Rattle.std.specs.List.{flat_map};
 ghost use Rattle.fmp_searching.specs.Claims.{claim_tables};
 ghost use Rattle.fmp_searching.specs.Made as spec;
+ghost use Rattle.fmp_searching.specs.Sources.{source_tables};
 
 use crate::answers::Answered;
 use crate::sources::ExploredSources;
@@ -23,7 +24,7 @@ pub struct SeenCalls {
     pub answers: Vec<SiteAnswer>,
 }
 
-/// The same place, as a question has it.
+/// The same position, as a question has it.
 fn asked_site(site: FrameSite) -> CallSite
     ensures { result ≡ spec.asked_site site }
 {
@@ -143,13 +144,14 @@ fn add_answered(
     site: FrameSite,
 ) -> Result<(), AllocError>
     ensures { OnOk result (map spec.answered_call calls.new.items ≡ map spec.answered_call calls.old.items
-        ++ spec.answered_here coverage.now (claim_tables sources.now.claim).image.code sources.now.positions.now site) }
+        ++ spec.answered_here coverage.now (claim_tables sources.now.claim).image.code
+        (source_tables sources.now).positions site) }
 {
     if !coverage.was_made(asked_site(site)) {
         return Ok(());
     }
     let code = sources.claim.image.code();
-    let position = sources.positions.position(code, site.body, site.pc);
+    let position = sources.claim.lines.position(code, site.body, site.pc);
     let answers = coverage.answers(alloc, asked_site(site))?;
     add_answered_at(calls, position, answers)
 }
@@ -163,7 +165,7 @@ fn answered_among(
 ) -> Result<Vec<Answered>, AllocError>
     ensures { IfOk result (λ calls. map spec.answered_call calls.items
         ≡ flat_map (λ site. spec.answered_here coverage.now (claim_tables sources.now.claim).image.code
-        sources.now.positions.now site) sites.now) }
+        (source_tables sources.now).positions site) sites.now) }
 {
     let mut calls = Vec::new(alloc);
     for site in sites {
@@ -187,7 +189,7 @@ pub fn seen_calls(
     coverage: &Coverage,
 ) -> Result<SeenCalls, AllocError>
     ensures { IfOk result (spec.AreSeen coverage.now (claim_tables sources.now.claim).image.code
-        sources.now.positions.now) }
+        (source_tables sources.now).positions) }
 {
     let sites = sites_of(alloc, sources.claim.image)?;
     let unmade = unmade_among(alloc, coverage, &sites)?;

@@ -4,11 +4,12 @@ ghost use Rattle.fmp_base.specs.Systems.{tables_of};
 ghost use Rattle.fmp_searching.specs.FieldNames as spec;
 ghost use Rattle.fmp_searching.specs.Fields.{counts_queued};
 
-use crate::sites::begins_body;
+use crate::sources::say;
 use fmp_base::{Entry, Name, System, TaskConfig};
 use fmp_fields::What;
+use fmp_frames::begins_body;
+use fmp_json::append_number;
 use fmp_lex::{Keyword, Symbol, TextFault, TokenKind, Tokens, tokens};
-use itoa::Buffer;
 use std::alloc::{AllocError, Global};
 
 /// A place among the locals of a body: the name of its variable, and its index where that is an array.
@@ -104,13 +105,6 @@ impl LocalNames {
     }
 }
 
-/// Appends text.
-fn say(out: &mut Vec<u8>, text: &str) -> Result<(), AllocError>
-    ensures { OnOk result (out.new.items ≡ out.old.items ++ text.now) }
-{
-    out.extend_from_slice(text.as_bytes())
-}
-
 /// Appends a name and a blank, if there is a name.
 fn say_before(out: &mut Vec<u8>, name: Option<Name>) -> Result<(), AllocError>
     ensures { OnOk result (out.new.items ≡ out.old.items ++ spec.before name) }
@@ -122,20 +116,13 @@ fn say_before(out: &mut Vec<u8>, name: Option<Name>) -> Result<(), AllocError>
     Ok(())
 }
 
-/// Appends a number.
-fn say_number(out: &mut Vec<u8>, number: u16) -> Result<(), AllocError>
-    ensures { OnOk result (out.new.items ≡ out.old.items ++ decimal number) }
-{
-    say(out, Buffer::new().format(number))
-}
-
 /// Appends a text and the number, from 1, of what stands at a place.
 #[tactic(auto, unfolding(crate::specs::FieldNames::numbered_text))]
 fn say_numbered(out: &mut Vec<u8>, text: &str, place: u8) -> Result<(), AllocError>
     ensures { OnOk result (out.new.items ≡ out.old.items ++ spec.numbered_text text.now place) }
 {
     say(out, text)?;
-    say_number(out, u16::from(place) + 1)
+    append_number(u64::from(place) + 1, out)
 }
 
 /// Appends the index of a local, where it is of an array.
@@ -146,7 +133,7 @@ fn say_index(out: &mut Vec<u8>, index: Option<u8>) -> Result<(), AllocError>
         return Ok(());
     };
     say(out, "[")?;
-    say_number(out, u16::from(index))?;
+    append_number(u64::from(index), out)?;
     say(out, "]")
 }
 

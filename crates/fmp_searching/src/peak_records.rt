@@ -4,13 +4,13 @@ ghost use Rattle.fmp_base.specs.Systems.{tables_of};
 ghost use Rattle.fmp_searching.specs.ExtentRecords as spec;
 ghost use Rattle.fmp_searching.specs.Lines.{numbered};
 
+use crate::counts::Count;
 use crate::coverage_records::append_finished;
 use crate::records::write_number;
-use fmp_base::{
-    CyclicConfig, DataQueueConfig, MailboxConfig, Name, SemaphoreConfig, System, TaskConfig,
-};
+use fmp_base::{Name, System};
 use fmp_explore::Report;
 use fmp_json::{begin, text_member};
+use fmp_scopes::HasName;
 use std::alloc::{AllocError, Global};
 
 /// Appends an object with a name, and a number if there is one.
@@ -47,38 +47,20 @@ fn append_unrun_name(
     }
 }
 
-/// Appends the tasks that never ran.
+/// Appends the rows of a table that never ran.
 #[tactic(auto, using(crate::proofs::SeenLists::numbered_at))]
-fn append_unrun_tasks(
+fn append_unrun_rows<T: HasName>(
     alloc: Global,
     out: &mut Vec<u8>,
-    tasks: &[TaskConfig],
+    rows: &[T],
     ran: &[bool],
 ) -> Result<(), AllocError>
     ensures { OnOk result (out.new.items
-        ≡ out.old.items ++ numbered (λ _ x ran. spec.unrun_record x.name ran) 0 tasks.now ran.now) }
+        ≡ out.old.items ++ numbered (λ _ x ran. spec.unrun_record (T.name_of x) ran) 0 rows.now ran.now) }
 {
-    let count = tasks.len().min(ran.len());
-    for t in 0..count {
-        append_unrun_name(alloc, out, tasks[t].name, ran[t])?;
-    }
-    Ok(())
-}
-
-/// Appends the cyclic handlers that never ran.
-#[tactic(auto, using(crate::proofs::SeenLists::numbered_at))]
-fn append_unrun_cyclics(
-    alloc: Global,
-    out: &mut Vec<u8>,
-    cyclics: &[CyclicConfig],
-    ran: &[bool],
-) -> Result<(), AllocError>
-    ensures { OnOk result (out.new.items
-        ≡ out.old.items ++ numbered (λ _ x ran. spec.unrun_record x.name ran) 0 cyclics.now ran.now) }
-{
-    let count = cyclics.len().min(ran.len());
-    for c in 0..count {
-        append_unrun_name(alloc, out, cyclics[c].name, ran[c])?;
+    let count = rows.len().min(ran.len());
+    for i in 0..count {
+        append_unrun_name(alloc, out, *rows[i].name(), ran[i])?;
     }
     Ok(())
 }
@@ -92,8 +74,8 @@ pub fn append_unrun(
 ) -> Result<(), AllocError>
     ensures { OnOk result (out.new.items ≡ out.old.items ++ spec.unrun_records (tables_of sys.now) report.now) }
 {
-    append_unrun_tasks(alloc, out, &sys.tasks, &report.coverage.runs.tasks)?;
-    append_unrun_cyclics(alloc, out, &sys.cyclics, &report.coverage.runs.cyclics)
+    append_unrun_rows(alloc, out, &sys.tasks, &report.coverage.runs.tasks)?;
+    append_unrun_rows(alloc, out, &sys.cyclics, &report.coverage.runs.cyclics)
 }
 
 /// Appends a name and its greatest count or length.
@@ -109,121 +91,49 @@ fn append_peak(
     append_named(alloc, out, what, name.as_bytes(), Some(most))
 }
 
-/// Appends the greatest count of each of these semaphores.
+/// Appends the greatest count or length of each row of a table, in this word.
 #[tactic(auto, using(crate::proofs::SeenLists::numbered_at))]
-fn append_semaphore_peaks(
+fn append_row_peaks<T: HasName, N: Count>(
     alloc: Global,
     out: &mut Vec<u8>,
     what: &str,
-    semaphores: &[SemaphoreConfig],
-    counts: &[u16],
+    rows: &[T],
+    peaks: &[N],
 ) -> Result<(), AllocError>
     ensures { OnOk result (out.new.items ≡ out.old.items
-        ++ numbered (λ _ x most. spec.peak_record what.now x.name most) 0 semaphores.now
-        counts.now) }
+        ++ numbered (λ _ x most. spec.peak_record what.now (T.name_of x) (N.number most)) 0 rows.now peaks.now) }
 {
-    let count = semaphores.len().min(counts.len());
+    let count = rows.len().min(peaks.len());
     for i in 0..count {
-        append_peak(alloc, out, what, semaphores[i].name, u64::from(counts[i]))?;
+        append_peak(alloc, out, what, *rows[i].name(), peaks[i].count())?;
     }
     Ok(())
 }
 
-/// Appends the greatest length of each of these data queues.
-#[tactic(auto, using(crate::proofs::SeenLists::numbered_at))]
-fn append_queue_peaks(
-    alloc: Global,
-    out: &mut Vec<u8>,
-    what: &str,
-    queues: &[DataQueueConfig],
-    words: &[u8],
-) -> Result<(), AllocError>
-    ensures { OnOk result (out.new.items ≡ out.old.items
-        ++ numbered (λ _ x most. spec.peak_record what.now x.name most) 0 queues.now words.now) }
-{
-    let count = queues.len().min(words.len());
-    for i in 0..count {
-        append_peak(alloc, out, what, queues[i].name, u64::from(words[i]))?;
-    }
-    Ok(())
-}
-
-/// Appends the greatest length of each of these mailboxes.
-#[tactic(auto, using(crate::proofs::SeenLists::numbered_at))]
-fn append_mailbox_peaks(
-    alloc: Global,
-    out: &mut Vec<u8>,
-    what: &str,
-    mailboxes: &[MailboxConfig],
-    messages: &[u8],
-) -> Result<(), AllocError>
-    ensures { OnOk result (out.new.items ≡ out.old.items
-        ++ numbered (λ _ x most. spec.peak_record what.now x.name most) 0 mailboxes.now
-        messages.now) }
-{
-    let count = mailboxes.len().min(messages.len());
-    for i in 0..count {
-        append_peak(alloc, out, what, mailboxes[i].name, u64::from(messages[i]))?;
-    }
-    Ok(())
-}
-
-/// Appends the greatest length of each data queue and mailbox, in this word.
+/// Appends the greatest length of each data queue and mailbox.
 fn append_lengths(
     alloc: Global,
     out: &mut Vec<u8>,
-    what: &str,
     sys: &System,
     report: &Report,
 ) -> Result<(), AllocError>
-    ensures { OnOk result (out.new.items ≡ out.old.items
-        ++ (numbered (λ _ x most. spec.peak_record what.now x.name most) 0 (tables_of sys.now).data_queues
-        report.now.coverage.peaks.words.items
-        ++ numbered (λ _ x most. spec.peak_record what.now x.name most) 0 (tables_of sys.now).mailboxes
-        report.now.coverage.peaks.messages.items)) }
+    ensures { OnOk result (out.new.items ≡ out.old.items ++ spec.length_records (tables_of sys.now) report.now) }
 {
-    append_queue_peaks(
+    let peaks = &report.coverage.peaks;
+    append_row_peaks(
         alloc,
         out,
-        what,
+        "greatest_length",
         &sys.data_queues,
-        &report.coverage.peaks.words,
+        &peaks.words,
     )?;
-    append_mailbox_peaks(
+    append_row_peaks(
         alloc,
         out,
-        what,
+        "greatest_length",
         &sys.mailboxes,
-        &report.coverage.peaks.messages,
+        &peaks.messages,
     )
-}
-
-/// Appends the greatest count of each semaphore, and the greatest length of each data queue and mailbox, in these
-/// words.
-fn append_peaks_as(
-    alloc: Global,
-    out: &mut Vec<u8>,
-    count: &str,
-    length: &str,
-    sys: &System,
-    report: &Report,
-) -> Result<(), AllocError>
-    ensures { OnOk result (out.new.items ≡ out.old.items
-        ++ (numbered (λ _ x most. spec.peak_record count.now x.name most) 0 (tables_of sys.now).semaphores
-        report.now.coverage.peaks.counts.items
-        ++ (numbered (λ _ x most. spec.peak_record length.now x.name most) 0 (tables_of sys.now).data_queues
-        report.now.coverage.peaks.words.items
-        ++ numbered (λ _ x most. spec.peak_record length.now x.name most) 0 (tables_of sys.now).mailboxes
-        report.now.coverage.peaks.messages.items))) }
-{
-    append_semaphore_peaks(
-        alloc,
-        out,
-        count,
-        &sys.semaphores,
-        &report.coverage.peaks.counts,
-    )?;
-    append_lengths(alloc, out, length, sys, report)
 }
 
 /// Appends the greatest count of each semaphore, and the greatest length of each data queue and mailbox.
@@ -235,5 +145,7 @@ pub fn append_peaks(
 ) -> Result<(), AllocError>
     ensures { OnOk result (out.new.items ≡ out.old.items ++ spec.peak_records (tables_of sys.now) report.now) }
 {
-    append_peaks_as(alloc, out, "greatest_count", "greatest_length", sys, report)
+    let counts = &report.coverage.peaks.counts;
+    append_row_peaks(alloc, out, "greatest_count", &sys.semaphores, counts)?;
+    append_lengths(alloc, out, sys, report)
 }

@@ -11,7 +11,7 @@ use crate::sources::ExploredSources;
 use crate::steps_files::steps_name_of;
 use fmp_explore::{CallSite, Finding};
 use fmp_frames::CallPosition;
-use fmp_json::{begin, finish, number_member, text_member};
+use fmp_json::{append, begin, finish, number_member, text_member};
 use json::Writer;
 use std::alloc::{AllocError, Global};
 
@@ -61,7 +61,7 @@ pub fn call_position(sources: &ExploredSources<'_>, site: CallSite) -> RecordPos
     ensures { result ≡ members.call_position (source_tables sources.now) site }
 {
     let code = sources.claim.image.code();
-    known_position(sources.positions.position(code, site.body, site.pc))
+    known_position(sources.claim.lines.position(code, site.body, site.pc))
 }
 
 /// Where the head of a body stands.
@@ -216,21 +216,19 @@ fn found_record(alloc: Global, found: &FoundRecord) -> Result<Vec<u8>, AllocErro
     finish(writer)
 }
 
-/// Appends a finding of this number as an object of JSON.
-fn append_finding(
+/// A finding of this number as an object of JSON.
+fn finding_record(
     alloc: Global,
     sources: &ExploredSources<'_>,
     number: usize,
     finding: &Finding,
     seen: &Seen,
-    out: &mut Vec<u8>,
-) -> Result<(), AllocError>
-    ensures { OnOk result (out.new.items
-        ≡ out.old.items ++ spec.finding_record (source_tables sources.now) number finding.now seen.now) }
+) -> Result<Vec<u8>, AllocError>
+    ensures { IfOk result (λ line. line.items
+        ≡ spec.finding_record (source_tables sources.now) number finding.now seen.now) }
 {
     let found = found_of(alloc, sources, number, finding, seen)?;
-    let record = found_record(alloc, &found)?;
-    out.extend_from_slice(&record)
+    found_record(alloc, &found)
 }
 
 /// The findings of a search, of which this is seen, as objects of JSON, one in a line, in their order. `AllocError` if
@@ -249,7 +247,8 @@ pub fn found_records(
     let mut out = Vec::new(alloc);
     let count = findings.len().min(seen.len());
     for i in 0..count {
-        append_finding(alloc, sources, i + 1, &findings[i], &seen[i], &mut out)?;
+        let record = finding_record(alloc, sources, i + 1, &findings[i], &seen[i])?;
+        append(&record, &mut out)?;
     }
     Ok(out)
 }

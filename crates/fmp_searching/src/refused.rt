@@ -35,9 +35,8 @@ fn say_one_refused(
 {
     let file = sources.named.src.as_bytes();
     let code = sources.claim.image.code();
-    let position = sources
-        .positions
-        .position(code, call.site.body, call.site.pc);
+    let (lines, site) = (sources.claim.lines, call.site);
+    let position = lines.position(code, site.body, site.pc);
     append_refused(alloc, LineForm::Text, file, position, call, out)
 }
 

@@ -2,30 +2,29 @@
 ghost use Rattle.std.specs.Prelude.{◌≡◌, ◌⊎◌, ◌+◌, ◌<◌, ◌^◌, IfNone, IfOk, Ok, OnErr, false, length, true};
 ghost use Rattle.fmp_base.specs.Systems.{tables_of};
 ghost use Rattle.fmp_cfgparse.specs.Configurations.{Describes};
-ghost use Rattle.fmp_frames.specs.CallPositions.{AreCallsOf};
 ghost use Rattle.fmp_searching.specs.Claims.{claim_tables};
 ghost use Rattle.fmp_searching.specs.Claimed.{EndsOfFiles, HasClaimed, HasEnded, HasShown, HasShownAll};
 ghost use Rattle.fmp_searching.specs.Claimed.{HoldsOfFiles, OfFiles, OfImage, OfQuestion, OfTexts, PrintsNothing};
 ghost use Rattle.fmp_searching.specs.Claimed.{sources_of};
-ghost use Rattle.fmp_searching.specs.Deeds.{DoesOnly, KeepsFiles, MayDo, SaysOnly, TellsOnly};
-ghost use Rattle.fmp_searching.specs.Files.{IsReportApart, is_refusal};
+ghost use Rattle.fmp_searching.specs.Deeds.{DoesOnly, GivesNothing, KeepsFiles, MayDo, SaysOnly, TellsOnly};
+ghost use Rattle.fmp_searching.specs.Files.{IsReportApart, IsReportNoSteps, is_refusal};
 ghost use Rattle.fmp_searching.specs.Mistakes.{is_of_sentence};
 ghost use Rattle.fmp_searching.specs.Questions.{IsWanted};
 ghost use Rattle.fmp_searching.specs.Shown.{PrintsOfFiles, PrintsOfTexts, ShowsFault};
 ghost use Rattle.fmp_searching.specs.Sources.{source_tables};
 
-use crate::asked_question::question_by;
+use crate::asked_question::{Inquiry, question_by};
 use crate::asking::{CommandMistake, ExploreChoices, wanted_by};
 use crate::at_calls::nevers_at_of;
 use crate::exploration::{no_question, no_question_of, report_over_input, report_over_steps};
-use crate::giving::{give, remove_after, status_after, write_report};
+use crate::giving::{give, status_after, write_report};
 use crate::naming::LocalNames;
 use crate::reading::read_texts;
 use crate::reporting::print_fault;
 use crate::sentence_faults::{expected_in, fault_of_sentences};
 use crate::sites::CallLines;
 use crate::sources::{Claim, ExploredSources, Exploring, Named, Sentences};
-use crate::steps_files::{is_read, is_report_of_steps, out_name};
+use crate::steps_files::{StepsFiles, is_read, is_report_of_steps, out_name, remove_earlier};
 use crate::telling::explored_aloud;
 use crate::unhandled::say_unhandled;
 use clap::Error;
@@ -33,7 +32,6 @@ use fmp_base::System;
 use fmp_cfgparse::read_cfg;
 use fmp_expect::read_call_sentences;
 use fmp_files::{Failure, Outside, end, refuse_mistake};
-use fmp_frames::CallPositions;
 use fmp_image::build;
 use fmp_image_bytes::Image;
 use fmp_lex::BuildFault;
@@ -64,20 +62,26 @@ fn explore_sources<O: Outside, R: Clock + Threads + Sync>(
     sources: &ExploredSources<'_>,
 ) -> Result<u8, AllocError>
     requires { sources.now.sentences.sections + length sources.now.sentences.expected.now < 2 ^ 64 }
-    ensures shown { IfOk result (λ _. HasShown (source_tables sources.now) (O.done outside.old) (O.done outside.new)) }
+    ensures shown { IfOk result (λ _. HasShown exploring.now (source_tables sources.now)
+        (O.done outside.old) (O.done outside.new)) }
     ensures mistaken { IfOk result (λ status. status ≡ 2 →
         HasShownAll (source_tables sources.now) (O.done outside.new)) }
     ensures claimed { IfOk result (λ status. status ≡ 0 →
         HasClaimed (source_tables sources.now) (O.done outside.new)) }
     ensures ended { IfOk result (λ status. is_refusal status ≡ false →
         HasEnded exploring.now (source_tables sources.now) status (O.done outside.new)) }
-    ensures quiet { OnErr result (PrintsNothing (O.done outside.old) (O.done outside.new)) }
+    ensures quiet { OnErr result (GivesNothing (O.done outside.old) (O.done outside.new)) }
     ensures keeps { IsReportApart exploring.now →
         DoesOnly (MayDo exploring.now sources.now.named.out.now) (O.done outside.old) (O.done outside.new) }
 {
     let explored = explored_aloud(alloc, outside, rt, exploring.jobs, sources)?;
     let (out, processors) = (sources.named.out, sources.claim.image.system().processors);
-    remove_after(alloc, outside, out, &explored.steps, exploring, processors)?;
+    let files = StepsFiles {
+        exploring,
+        out,
+        count: explored.steps.len(),
+    };
+    remove_earlier(alloc, outside, files, processors)?;
     let written = write_report(alloc, outside, exploring, &explored);
     let status = give(alloc, outside, out, exploring, &explored);
     Ok(status_after(written, status))
@@ -92,19 +96,19 @@ fn explore_told<O: Outside, R: Clock + Threads + Sync>(
     sources: &ExploredSources<'_>,
 ) -> Result<u8, AllocError>
     requires places { sources.now.sentences.sections + length sources.now.sentences.expected.now < 2 ^ 64 }
-    requires stand { AreCallsOf opened.now.src.now sources.now.positions.now }
-    requires same { source_tables sources.now ≡ sources_of (claim_tables sources.now.claim) sources.now.positions.now
-        sources.now.names.now opened.now.said.now opened.now.exploring.now }
-    ensures shown { IfOk result (λ _. OfQuestion (claim_tables sources.now.claim) opened.now.src.now
-        opened.now.said.now opened.now.exploring.now (λ s. HasShown s (O.done outside.old) (O.done outside.new))) }
+    requires same { source_tables sources.now ≡ sources_of (claim_tables sources.now.claim) sources.now.names.now
+        opened.now.said.now opened.now.exploring.now }
+    ensures shown { IfOk result (λ _. OfQuestion (claim_tables sources.now.claim) opened.now.said.now
+        opened.now.exploring.now
+        (λ s. HasShown opened.now.exploring.now s (O.done outside.old) (O.done outside.new))) }
     ensures mistaken { IfOk result (λ status. status ≡ 2 → OfQuestion (claim_tables sources.now.claim)
-        opened.now.src.now opened.now.said.now opened.now.exploring.now (λ s. HasShownAll s (O.done outside.new))) }
+        opened.now.said.now opened.now.exploring.now (λ s. HasShownAll s (O.done outside.new))) }
     ensures claimed { IfOk result (λ status. status ≡ 0 → OfQuestion (claim_tables sources.now.claim)
-        opened.now.src.now opened.now.said.now opened.now.exploring.now (λ s. HasClaimed s (O.done outside.new))) }
+        opened.now.said.now opened.now.exploring.now (λ s. HasClaimed s (O.done outside.new))) }
     ensures ended { IfOk result (λ status. is_refusal status ≡ false → OfQuestion (claim_tables sources.now.claim)
-        opened.now.src.now opened.now.said.now opened.now.exploring.now
+        opened.now.said.now opened.now.exploring.now
         (λ s. HasEnded opened.now.exploring.now s status (O.done outside.new))) }
-    ensures quiet { OnErr result (PrintsNothing (O.done outside.old) (O.done outside.new)) }
+    ensures quiet { OnErr result (GivesNothing (O.done outside.old) (O.done outside.new)) }
     ensures keeps { IsReportApart opened.now.exploring.now →
         KeepsFiles opened.now.exploring.now (O.done outside.old) (O.done outside.new) }
 {
@@ -121,22 +125,22 @@ fn explore_question<O: Outside, R: Clock + Threads + Sync>(
     opened: &Opened<'_>,
 ) -> Result<u8, AllocError>
     requires { IsWanted opened.now.exploring.now.asked (Ok opened.now.wanted.now) }
-    ensures shown { IfOk result (λ _. OfQuestion (claim_tables claim.now) opened.now.src.now opened.now.said.now
-        opened.now.exploring.now (λ s. HasShown s (O.done outside.old) (O.done outside.new))) }
-    ensures mistaken { IfOk result (λ status. status ≡ 2 → OfQuestion (claim_tables claim.now) opened.now.src.now
+    ensures shown { IfOk result (λ _. OfQuestion (claim_tables claim.now) opened.now.said.now
+        opened.now.exploring.now
+        (λ s. HasShown opened.now.exploring.now s (O.done outside.old) (O.done outside.new))) }
+    ensures mistaken { IfOk result (λ status. status ≡ 2 → OfQuestion (claim_tables claim.now)
         opened.now.said.now opened.now.exploring.now (λ s. HasShownAll s (O.done outside.new))) }
-    ensures claimed { IfOk result (λ status. status ≡ 0 → OfQuestion (claim_tables claim.now) opened.now.src.now
+    ensures claimed { IfOk result (λ status. status ≡ 0 → OfQuestion (claim_tables claim.now)
         opened.now.said.now opened.now.exploring.now (λ s. HasClaimed s (O.done outside.new))) }
     ensures ended { IfOk result (λ status. is_refusal status ≡ false → OfQuestion (claim_tables claim.now)
-        opened.now.src.now opened.now.said.now opened.now.exploring.now
+        opened.now.said.now opened.now.exploring.now
         (λ s. HasEnded opened.now.exploring.now s status (O.done outside.new))) }
-    ensures quiet { OnErr result (PrintsNothing (O.done outside.old) (O.done outside.new)) }
+    ensures quiet { OnErr result (GivesNothing (O.done outside.old) (O.done outside.new)) }
     ensures keeps { IsReportApart opened.now.exploring.now →
         KeepsFiles opened.now.exploring.now (O.done outside.old) (O.done outside.new) }
 {
     let exploring = opened.exploring;
     let names = LocalNames::new(alloc, opened.src)?;
-    let positions = CallPositions::new(alloc, opened.src)?;
     let out = out_name(alloc, exploring)?;
     let expected = expected_in(alloc, claim.configured, opened.said)?;
     let call_sentences = read_call_sentences(alloc, claim.configured, opened.said)?;
@@ -151,7 +155,6 @@ fn explore_question<O: Outside, R: Clock + Threads + Sync>(
     };
     let sources = ExploredSources {
         claim: *claim,
-        positions: &positions,
         names: &names,
         sentences: Sentences {
             sections: exploring.asked.alone.len(),
@@ -176,15 +179,12 @@ fn refuse_sentence<O: Outside>(outside: &mut O, text: &str) -> u8
     1
 }
 
-/// Says what is mistaken in the words or the sentences of an exploration, which ask for no question about an image,
-/// whose bodies' calls stand in these lines. The status is 1 for a sentence, and 2 for words.
+/// Says what is mistaken in an inquiry, which asks no question. The status is 1 for a sentence, and 2 for words.
 #[tactic(auto, using(crate::proofs::Doing::only_none, crate::proofs::Doing::says_one))]
 fn refuse_question<O: Outside>(
     alloc: Global,
     outside: &mut O,
-    opened: &Opened<'_>,
-    configured: &System,
-    of: (&Image, &CallLines),
+    inquiry: &Inquiry<'_>,
     mistake: CommandMistake,
 ) -> Result<u8, AllocError>
     ensures refusal { IfOk result (λ status. is_refusal status ≡ true) }
@@ -193,12 +193,9 @@ fn refuse_question<O: Outside>(
     ensures words { is_of_sentence mistake ≡ false → IfOk result (λ status. (status ≡ 2) ⊎ (status ≡ 3)) }
     ensures says { SaysOnly (O.done outside.old) (O.done outside.new) }
 {
-    match fault_of_sentences(alloc, configured, opened.said, of, mistake)? {
+    match fault_of_sentences(alloc, inquiry, mistake)? {
         Some(text) => Ok(refuse_sentence(outside, &text)),
-        None => {
-            let error = no_question_of(alloc, &opened.exploring.asked, of, mistake);
-            Ok(refuse_mistake(outside, error))
-        }
+        None => Ok(refuse_mistake(outside, no_question_of(alloc, inquiry, mistake))),
     }
 }
 
@@ -221,15 +218,23 @@ fn explore_image<O: Outside, R: Clock + Threads + Sync>(
     ensures ended { IfOk result (λ status. is_refusal status ≡ false → OfImage image.now (tables_of configured.now)
         opened.now.src.now opened.now.said.now opened.now.exploring.now
         (λ s. HasEnded opened.now.exploring.now s status (O.done outside.new))) }
-    ensures shown { IfOk result (λ _. PrintsNothing (O.done outside.old) (O.done outside.new)
+    ensures shown { IfOk result (λ _. GivesNothing (O.done outside.old) (O.done outside.new)
         ⊎ OfImage image.now (tables_of configured.now) opened.now.src.now opened.now.said.now
-        opened.now.exploring.now (λ s. HasShown s (O.done outside.old) (O.done outside.new))) }
-    ensures quiet { OnErr result (PrintsNothing (O.done outside.old) (O.done outside.new)) }
+        opened.now.exploring.now
+        (λ s. HasShown opened.now.exploring.now s (O.done outside.old) (O.done outside.new))) }
+    ensures quiet { OnErr result (GivesNothing (O.done outside.old) (O.done outside.new)) }
     ensures keeps { IsReportApart opened.now.exploring.now →
         KeepsFiles opened.now.exploring.now (O.done outside.old) (O.done outside.new) }
 {
     let lines = CallLines::new(alloc, opened.src)?;
-    match question_by(alloc, opened.wanted, opened.said, configured, image, &lines)? {
+    let inquiry = Inquiry {
+        wanted: opened.wanted,
+        text: opened.said,
+        configured,
+        image,
+        lines: &lines,
+    };
+    match question_by(alloc, &inquiry)? {
         Ok(question) => {
             let claim = Claim {
                 image,
@@ -240,9 +245,7 @@ fn explore_image<O: Outside, R: Clock + Threads + Sync>(
             };
             explore_question(alloc, outside, rt, &claim, opened)
         }
-        Err(mistake) => {
-            refuse_question(alloc, outside, opened, configured, (image, &lines), mistake)
-        }
+        Err(mistake) => refuse_question(alloc, outside, &inquiry, mistake),
     }
 }
 
@@ -264,9 +267,10 @@ fn explore_status<O: Outside, R: Clock + Threads + Sync>(
     ensures ended { is_refusal result ≡ false → OfImage image.now (tables_of configured.now) opened.now.src.now
         opened.now.said.now opened.now.exploring.now
         (λ s. HasEnded opened.now.exploring.now s result (O.done outside.new)) }
-    ensures shown { PrintsNothing (O.done outside.old) (O.done outside.new)
+    ensures shown { GivesNothing (O.done outside.old) (O.done outside.new)
         ⊎ OfImage image.now (tables_of configured.now) opened.now.src.now opened.now.said.now
-        opened.now.exploring.now (λ s. HasShown s (O.done outside.old) (O.done outside.new)) }
+        opened.now.exploring.now
+        (λ s. HasShown opened.now.exploring.now s (O.done outside.old) (O.done outside.new)) }
     ensures keeps { IsReportApart opened.now.exploring.now →
         KeepsFiles opened.now.exploring.now (O.done outside.old) (O.done outside.new) }
 {
@@ -286,7 +290,7 @@ fn refuse_texts<O: Outside>(
     fault: &BuildFault,
 ) -> u8
     ensures status { (result ≡ 1) ⊎ (result ≡ 3) }
-    ensures shown { PrintsNothing (O.done outside.old) (O.done outside.new)
+    ensures shown { GivesNothing (O.done outside.old) (O.done outside.new)
         ⊎ ShowsFault (O.files outside.old) exploring.now (O.done outside.old) (O.done outside.new) }
     ensures tells { TellsOnly (O.done outside.old) (O.done outside.new) }
 {
@@ -412,7 +416,8 @@ fn report_mistake<O: Outside>(
     outside: &O,
     exploring: &Exploring<'_>,
 ) -> Option<Result<Error, AllocError>>
-    ensures { IfNone result (IsReportApart exploring.now) }
+    ensures apart { IfNone result (IsReportApart exploring.now) }
+    ensures own { IfNone result (IsReportNoSteps exploring.now) }
 {
     if is_report_read(outside, exploring) {
         return Some(report_over_input(alloc));
@@ -427,8 +432,8 @@ fn report_mistake<O: Outside>(
 /// Explores the schedules of the texts of two files, or prints their first fault, with status 1. The status is 2 where
 /// the words are mistaken, or a file that is read would be written, and 3 after a failure. With status 2 nothing was
 /// printed, or all that a search came to. Whatever the status, no file was written or removed but those of steps and of
-/// the report, and none of these is read; and nothing was printed but what a search came to, or the fault. This clock
-/// tells how long the search takes.
+/// the report, none of these is read, and one that was written has what a search came to, or a beginning of that; and
+/// nothing was printed but what the search came to, or the fault. This clock tells how long the search takes.
 #[tactic(auto, using(crate::proofs::Doing::refusal_may, crate::proofs::Printing::quietly_refused))]
 pub fn run_explore<O: Outside, R: Clock + Threads + Sync>(
     alloc: Global,
@@ -442,6 +447,7 @@ pub fn run_explore<O: Outside, R: Clock + Threads + Sync>(
     ensures ended { is_refusal result ≡ false →
         EndsOfFiles (O.files outside.old) exploring.now result (O.done outside.new) }
     ensures apart { is_refusal result ≡ false → IsReportApart exploring.now }
+    ensures own { is_refusal result ≡ false → IsReportNoSteps exploring.now }
     ensures shown { PrintsOfFiles (O.files outside.old) exploring.now (O.done outside.old) (O.done outside.new) }
     ensures keeps { KeepsFiles exploring.now (O.done outside.old) (O.done outside.new) }
 {

@@ -4,13 +4,11 @@ ghost use Rattle.fmp_base.specs.Systems.{tables_of};
 ghost use Rattle.fmp_expect.specs.CallSentences.{other_sentences_of};
 ghost use Rattle.fmp_searching.specs.Mistakes.{is_of_sentence};
 
-use crate::asked_question::is_end;
+use crate::asked_question::{Inquiry, is_end};
 use crate::asking::CommandMistake;
-use crate::sites::CallLines;
 use fmp_arguments::flaw_text;
 use fmp_base::System;
 use fmp_expect::{Expected, line_at, read_call_sentences, read_other_sentences};
-use fmp_image_bytes::Image;
 use std::alloc::{AllocError, Global};
 
 /// What is said of sentences about calls of which one names a line without any.
@@ -34,17 +32,12 @@ pub fn expected_in(
 }
 
 /// What is said of the first sentence about the calls of a line in which none stands.
-fn uncalled_text(
-    alloc: Global,
-    configured: &System,
-    text: &[u8],
-    image: &Image,
-    lines: &CallLines,
-) -> Result<String, AllocError> {
+fn uncalled_text(alloc: Global, inquiry: &Inquiry<'_>) -> Result<String, AllocError> {
+    let image = inquiry.image;
     image.keeps_rules();
-    for never in &read_call_sentences(alloc, configured, text)? {
+    for never in &read_call_sentences(alloc, inquiry.configured, inquiry.text)? {
         let (line, at) = (never.line, never.at);
-        if lines.calls(alloc, image.code(), at)?.is_empty() {
+        if inquiry.lines.calls(alloc, image.code(), at)?.is_empty() {
             return format!(in alloc;
                 "expect:{line}: `at` names a line of SRC in which no call stands: `{at}`"
             );
@@ -66,27 +59,22 @@ fn end_text(alloc: Global, configured: &System, text: &[u8]) -> Result<String, A
     String::from_str(alloc, NO_END)
 }
 
-/// What is said of a text of sentences of which one asks no question about what is configured and its image, whose
-/// bodies' calls stand in these lines; none if the mistake is in the words of the command. `AllocError` if memory runs
-/// out.
+/// What is said of the text of sentences of an inquiry, of which one is mistaken; none if the mistake is in the words
+/// of the command. `AllocError` if memory runs out.
 pub fn fault_of_sentences(
     alloc: Global,
-    configured: &System,
-    text: &[u8],
-    of: (&Image, &CallLines),
+    inquiry: &Inquiry<'_>,
     mistake: CommandMistake,
 ) -> Result<Option<String>, AllocError>
     ensures { IfOk result (λ text. is_some text ≡ is_of_sentence mistake) }
 {
-    let (image, lines) = of;
+    let (configured, text) = (inquiry.configured, inquiry.text);
     match mistake {
         CommandMistake::Sentence { line, flaw } => {
             let said = flaw_text(alloc, configured, line, line_at(text, line), flaw)?;
             Ok(Some(said))
         }
-        CommandMistake::SentenceCall => {
-            Ok(Some(uncalled_text(alloc, configured, text, image, lines)?))
-        }
+        CommandMistake::SentenceCall => Ok(Some(uncalled_text(alloc, inquiry)?)),
         CommandMistake::End => Ok(Some(end_text(alloc, configured, text)?)),
         CommandMistake::Never
         | CommandMistake::Alone

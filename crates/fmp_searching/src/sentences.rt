@@ -4,11 +4,12 @@ ghost use Rattle.fmp_base.specs.Systems.{tables_of};
 ghost use Rattle.fmp_expect.specs.Written as written;
 ghost use Rattle.fmp_searching.specs.Sentences as spec;
 
-use crate::claiming::{append, append_number, append_value};
+use crate::claiming::append_value;
 use crate::condition_words::append_condition;
 use fmp_base::{Entry, InterruptConfig, Name, System};
 use fmp_expect::interrupt_named;
 use fmp_explore::Monitor;
+use fmp_json::{append, append_number};
 use fmp_monitors::{
     Condition, ExpectedActor, ExpectedDeed, ExpectedResponse, ExpectedTrigger, Happening, Sentence,
 };

@@ -1,156 +1,33 @@
 //! Where the calls of bodies stand in their text.
-ghost use Rattle.std.specs.Prelude.{◌≡◌, ◌+◌, ◌≤◌, [], ◌∷◌, ◌++◌, IfOk, MatchOption, None, OnOk, Some, count_by, drop};
-ghost use Rattle.std.specs.Prelude.{false, if◌then◌else◌, length, map, option_map, slice_get, take, unwrap_or};
+ghost use Rattle.std.specs.Prelude.{◌≡◌, ◌≤◌, [], ◌∷◌, ◌++◌, IfOk, MatchOption, None, OnOk, Some, count_by};
+ghost use Rattle.std.specs.Prelude.{if◌then◌else◌, length, slice_get, take};
+ghost use Rattle.fmp_frames.specs.CallPositions as frames;
 ghost use Rattle.fmp_instructions.specs.Instructions.{code_tables};
 ghost use Rattle.fmp_searching.specs.Sites as spec;
 
 use fmp_code::{Code, Instruction};
 use fmp_explore::CallSite;
-use fmp_lex::{Keyword, TextFault, TokenKind, Tokens, tokens};
+use fmp_frames::{BodyCalls, CallPosition, call_count, is_call, text_bodies};
 use std::alloc::{AllocError, Global};
 use std::marker::Model;
 
-/// The line at which a body of a text begins, and those of its calls, in order.
-#[derive(Drop)]
-struct BodyLines {
-    head: u32,
-    calls: Vec<u32>,
-}
-
-/// The lines of the calls of each body of a text. The code of a body has its calls in the order of the text, so the
-/// call at a place of the code is the one of the same number in the text.
+/// Where the bodies of a text begin, and where their calls stand. The code of a body has its calls in the order of the
+/// text, so the n-th call of the code is the n-th of the text.
 #[derive(Drop)]
 pub struct CallLines {
-    bodies: Vec<BodyLines>,
+    bodies: Vec<BodyCalls>,
 }
 
 impl Model for CallLines {
     ghost use Rattle.std.specs.Prelude.{List, map};
-    ghost use Rattle.fmp_searching.specs.Sites.{TextBody, text_body};
+    ghost use Rattle.fmp_frames.specs.CallPositions.{TextBody, text_body};
 
     ghost Value = { List TextBody };
 
     ghost view = { λ c. map text_body c.bodies.items };
 }
 
-/// Whether a token begins a body.
-pub fn begins_body(kind: TokenKind) -> bool
-    ensures { result ≡ spec.is_head kind }
-{
-    match kind {
-        TokenKind::Keyword(Keyword::Task) | TokenKind::Keyword(Keyword::Handler) => true,
-        _ => false,
-    }
-}
-
-/// Whether the token at a place begins a body.
-fn begins_at(tokens: &Tokens<'_>, at: usize) -> bool
-    ensures { result ≡ spec.head_at tokens.now at }
-{
-    match tokens.kind(at) {
-        Some(kind) => begins_body(kind),
-        None => false,
-    }
-}
-
-/// The line of the token at a place.
-fn line_at(tokens: &Tokens<'_>, at: usize) -> u32
-    ensures { result ≡ spec.line_at tokens.now at }
-{
-    match tokens.position(at) {
-        Some(position) => position.line,
-        None => 0,
-    }
-}
-
-/// Whether the token at a place names a service call.
-fn is_service_at(tokens: &Tokens<'_>, at: usize) -> bool
-    ensures { result ≡ unwrap_or (option_map (λ t. spec.is_service t.kind) (slice_get tokens.now at)) false }
-{
-    match tokens.kind(at) {
-        Some(TokenKind::Service(_)) => true,
-        _ => false,
-    }
-}
-
-/// Adds the line of the token at a place, if it names a service call.
-#[tactic(auto, using(crate::proofs::Bodies::call_line_by))]
-fn add_call_at(tokens: &Tokens<'_>, at: usize, calls: &mut Vec<u32>) -> Result<(), AllocError>
-    ensures { OnOk result (calls.new.items ≡ calls.old.items ++ spec.call_line_at tokens.now at) }
-{
-    if !is_service_at(tokens, at) {
-        return Ok(());
-    }
-    calls.push(line_at(tokens, at))?;
-    Ok(())
-}
-
-/// The lines of the calls from a token on, up to where the next body begins.
-fn calls_from(alloc: Global, tokens: &Tokens<'_>, start: usize) -> Result<Vec<u32>, AllocError>
-    ensures { IfOk result (λ calls. calls.items ≡ spec.call_lines (drop start tokens.now)) }
-{
-    let mut calls = Vec::new(alloc);
-    for at in start..tokens.len() {
-        if begins_at(tokens, at) {
-            return Ok(calls);
-        }
-        add_call_at(tokens, at, &mut calls)?;
-    }
-    Ok(calls)
-}
-
-/// Adds the body that the token at a place begins, if it begins one. The next token stands at the place after it.
-fn add_body_at(
-    alloc: Global,
-    tokens: &Tokens<'_>,
-    at: usize,
-    next: usize,
-    bodies: &mut Vec<BodyLines>,
-) -> Result<(), AllocError>
-    requires { next ≡ at + 1 }
-    ensures { OnOk result (map spec.text_body bodies.new.items
-        ≡ map spec.text_body bodies.old.items ++ spec.body_at tokens.now at) }
-{
-    if !begins_at(tokens, at) {
-        return Ok(());
-    }
-    let calls = calls_from(alloc, tokens, next)?;
-    bodies.push(BodyLines {
-        head: line_at(tokens, at),
-        calls,
-    })?;
-    Ok(())
-}
-
-/// The bodies that begin in tokens.
-fn bodies_in(alloc: Global, tokens: &Tokens<'_>) -> Result<Vec<BodyLines>, AllocError>
-    ensures { IfOk result (λ bodies. map spec.text_body bodies.items ≡ spec.bodies_in tokens.now) }
-{
-    let mut bodies = Vec::new(alloc);
-    for at in 0..tokens.len() {
-        add_body_at(alloc, tokens, at, at + 1, &mut bodies)?;
-    }
-    Ok(bodies)
-}
-
-/// Whether an instruction is a call.
-fn is_call(instruction: &Instruction) -> bool
-    ensures { result ≡ spec.is_call instruction.now }
-{
-    match instruction {
-        Instruction::Call { .. } => true,
-        _ => false,
-    }
-}
-
-/// How many of these instructions are calls.
-fn call_count(instructions: &[Instruction]) -> usize
-    ensures { result ≡ count_by spec.is_call instructions.now }
-{
-    instructions.iter().filter(|i| is_call(*i)).count()
-}
-
-/// The places of the calls among the instructions of a body.
+/// The positions of the calls among the instructions of a body.
 fn call_positions(alloc: Global, instructions: &[Instruction]) -> Result<Vec<u16>, AllocError>
     requires { length instructions.now ≤ 65535 }
     ensures { IfOk result (λ positions. positions.items ≡ spec.call_positions 0 instructions.now) }
@@ -175,21 +52,22 @@ fn add_where(is_so: bool, site: CallSite, sites: &mut Vec<CallSite>) -> Result<(
     Ok(())
 }
 
-/// Adds the calls of a body that stand in a line, where its calls are at these places and stand in these lines.
+/// Adds the calls of a body that stand in a line, where its calls have these positions in the code and in the text.
+#[tactic(auto, using(crate::proofs::Bodies::sites_at_at))]
 fn add_sites(
     body: u8,
     positions: &[u16],
-    lines: &[u32],
+    calls: &[CallPosition],
     line: u32,
     sites: &mut Vec<CallSite>,
 ) -> Result<(), AllocError>
     ensures { OnOk result (sites.new.items
-        ≡ sites.old.items ++ spec.sites_at body line positions.now lines.now) }
+        ≡ sites.old.items ++ spec.sites_at body line positions.now calls.now) }
 {
-    let count = positions.len().min(lines.len());
+    let count = positions.len().min(calls.len());
     for at in 0..count {
         let pc = positions[at];
-        add_where(lines[at] == line, CallSite { body, pc }, sites)?;
+        add_where(calls[at].line == line, CallSite { body, pc }, sites)?;
     }
     Ok(())
 }
@@ -205,9 +83,13 @@ fn instructions_of(code: &Code, body: u8) -> Option<&[Instruction]>
     }
 }
 
-/// The line of the call at a place among instructions, whose calls stand in these lines.
-fn line_among(instructions: &[Instruction], calls: &[u32], pc: u16) -> Option<u32>
-    ensures { result ≡ slice_get calls.now (count_by spec.is_call (take pc instructions.now)) }
+/// Where the call at a position among instructions stands, whose calls stand here; the next one if none is there.
+fn position_among(
+    instructions: &[Instruction],
+    calls: &[CallPosition],
+    pc: u16,
+) -> Option<CallPosition>
+    ensures { result ≡ slice_get calls.now (count_by frames.is_call (take pc instructions.now)) }
 {
     let end = usize::from(pc).min(instructions.len());
     calls.get(call_count(&instructions[..end])).copied()
@@ -215,36 +97,45 @@ fn line_among(instructions: &[Instruction], calls: &[u32], pc: u16) -> Option<u3
 
 impl CallLines {
     ghost use Rattle.std.specs.Prelude.{◌≡◌, ◌++◌, IfOk, MatchOption, None, OnOk, Some, option_map, slice_get};
+    ghost use Rattle.fmp_frames.specs.CallPositions.{AreBodiesOf, position_of};
     ghost use Rattle.fmp_instructions.specs.Instructions.{code_tables};
-    ghost use Rattle.fmp_searching.specs.Sites.{AreBodiesOf, HasSites, calls_in, code_of, line_of, sites_by};
-    ghost use Rattle.fmp_searching.specs.Sites.{lines_of};
+    ghost use Rattle.fmp_searching.specs.Sites.{HasSites, calls_in, calls_of, code_of, line_of, positions_of};
+    ghost use Rattle.fmp_searching.specs.Sites.{sites_by};
 
-    /// The lines of the calls of a text that an image was built of; none for a text that is too long. `AllocError` if
-    /// memory runs out.
+    /// The calls of a text that an image was built of; none of a text that is too long. `AllocError` if memory runs
+    /// out.
     pub fn new(alloc: Global, src: &[u8]) -> Result<CallLines, AllocError>
         ensures { IfOk result (λ lines. AreBodiesOf src.now lines) }
     {
-        let bodies = match tokens(alloc, src) {
-            Ok(list) => bodies_in(alloc, &list.tokens)?,
-            Err(TextFault::TooLong) => Vec::new(alloc),
-            Err(TextFault::Memory) => return Err(AllocError),
-        };
-        Ok(CallLines { bodies })
+        Ok(CallLines {
+            bodies: text_bodies(alloc, src)?,
+        })
     }
 
-    /// The line of the call at a place of this code, or of the next call of the body if none stands there.
+    /// Where the call at a position of the body of a number of this code stands, or the next one if none is there.
+    #[tactic(auto, using(crate::proofs::Bodies::position_no_code, crate::proofs::Bodies::position_no_calls))]
+    pub fn position(&self, code: &Code, body: u8, pc: u16) -> Option<CallPosition>
+        ensures { result ≡ position_of (code_tables code.now) (positions_of self.now) body pc }
+    {
+        let instructions = instructions_of(code, body)?;
+        let calls = self.calls_of(body)?;
+        position_among(instructions, calls, pc)
+    }
+
+    /// The line of the call at a position of this code, or of the next call of the body if none stands there.
     pub fn line(&self, code: &Code, site: CallSite) -> Option<u32>
         ensures { result ≡ line_of (code_tables code.now) self.now site }
     {
-        let code = code.bodies.get(usize::from(site.body))?;
-        let text = self.bodies.get(usize::from(site.body))?;
-        line_among(&code.instructions, &text.calls, site.pc)
+        match self.position(code, site.body, site.pc) {
+            Some(position) => Some(position.line),
+            None => None,
+        }
     }
 
-    /// The lines of the calls of the body of a number, if there is one.
-    fn lines_of(&self, body: u8) -> Option<&[u32]>
-        ensures { MatchOption result (lines_of self.now body ≡ None)
-            (λ lines. lines_of self.now body ≡ Some lines.now) }
+    /// Where the calls of the body of a number stand, if there is one.
+    fn calls_of(&self, body: u8) -> Option<&[CallPosition]>
+        ensures { MatchOption result (calls_of self.now body ≡ None)
+            (λ calls. calls_of self.now body ≡ Some calls.now) }
     {
         match self.bodies.get(usize::from(body)) {
             Some(body) => Some(&body.calls),
@@ -263,16 +154,16 @@ impl CallLines {
     ) -> Result<(), AllocError>
         requires { HasSites (code_tables code.now) }
         ensures { OnOk result (sites.new.items ≡ sites.old.items
-            ++ sites_by body line (code_of (code_tables code.now) body) (lines_of self.now body)) }
+            ++ sites_by body line (code_of (code_tables code.now) body) (calls_of self.now body)) }
     {
         let Some(instructions) = instructions_of(code, body) else {
             return Ok(());
         };
-        let Some(lines) = self.lines_of(body) else {
+        let Some(calls) = self.calls_of(body) else {
             return Ok(());
         };
         let positions = call_positions(alloc, instructions)?;
-        add_sites(body, &positions, lines, line, sites)
+        add_sites(body, &positions, calls, line, sites)
     }
 
     /// The calls of this code that stand in a line of the text, in order. `AllocError` if memory runs out.

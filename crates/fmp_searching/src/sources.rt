@@ -6,14 +6,14 @@ ghost use Rattle.fmp_searching.specs.Sources.{source_tables};
 ghost use Rattle.fmp_searching.specs.Varied.{line_at};
 
 use crate::asking::ExploreWords;
-use crate::claiming::append_number;
 use crate::naming::LocalNames;
 use crate::sites::CallLines;
 use fmp_base::System;
 use fmp_expect::{CallSentence, Expected};
 use fmp_explore::{CallSite, Question};
-use fmp_frames::{CallPosition, CallPositions};
+use fmp_frames::CallPosition;
 use fmp_image_bytes::Image;
+use fmp_json::append_number;
 use fmp_warnings::Form;
 use std::alloc::AllocError;
 
@@ -103,11 +103,10 @@ pub struct Claim<'a> {
     pub bound: u64,
 }
 
-/// What is explored, and where its calls stand in the text.
+/// What is explored, and what is said of it.
 #[derive(Clone, Copy)]
 pub struct ExploredSources<'a> {
     pub claim: Claim<'a>,
-    pub positions: &'a CallPositions,
     pub names: &'a LocalNames,
     pub sentences: Sentences<'a>,
     pub named: Named<'a>,
@@ -142,7 +141,7 @@ pub fn say_call(
     ensures { OnOk result (out.new.items ≡ out.old.items ++ call_text (source_tables sources.now) site) }
 {
     let code = sources.claim.image.code();
-    let position = sources.positions.position(code, site.body, site.pc);
+    let position = sources.claim.lines.position(code, site.body, site.pc);
     say(out, sources.named.src)?;
     say_column(out, position)
 }

@@ -37,7 +37,8 @@ pub struct HeldUp {
     pub spun: Option<Spun>,
 }
 
-/// The call to which an actor over these bodies comes next, and its place; none if it comes to none, or is far from it.
+/// The call to which an actor over these bodies comes next, and its position; none if it comes to none, or is far
+/// from it.
 fn next_call<B: Body<Ctx = MachineContext>>(
     body: &B,
     actor: &Actor<MachineContext>,

@@ -4,14 +4,9 @@ ghost use Rattle.fmp_base.specs.Systems.{tables_of};
 ghost use Rattle.fmp_searching.specs.Stuck as spec;
 
 use fmp_base::{ObjectKind, Phase, System, TaskBlock};
+use fmp_json::append;
 use fmp_named::{append_object, append_task, append_wait};
 use std::alloc::{AllocError, Global};
-
-fn append(text: &[u8], out: &mut Vec<u8>) -> Result<(), AllocError>
-    ensures { OnOk result (out.new.items ≡ out.old.items ++ text.now) }
-{
-    out.extend_from_slice(text)
-}
 
 /// Appends for what a task of this block waits, and until when.
 fn append_waits(sys: &System, block: &TaskBlock, out: &mut Vec<u8>) -> Result<(), AllocError>

@@ -34,58 +34,79 @@ fn add_sentence(
     Ok(())
 }
 
-/// Whether a line comes after one, and before another if there is one.
-fn is_between(after: usize, before: Option<usize>, line: usize) -> bool
-    ensures { result ≡ spec.is_between after before line }
-{
-    match before {
-        Some(before) => line > after && line < before,
-        None => line > after,
+/// The lines between two of a file.
+#[derive(Clone, Copy)]
+struct LinesBetween {
+    /// They come after this one.
+    after: usize,
+    /// They come before this one, if there is one.
+    before: Option<usize>,
+}
+
+impl LinesBetween {
+    ghost use Rattle.std.specs.Prelude.{◌≡◌};
+    ghost use Rattle.fmp_searching.specs.Tests.{is_between};
+
+    /// Whether a line is one of them.
+    fn contains(self, line: usize) -> bool
+        ensures { result ≡ is_between self.after self.before line }
+    {
+        match self.before {
+            Some(before) => line > self.after && line < before,
+            None => line > self.after,
+        }
     }
 }
 
-/// Adds the sentence about calls at a place, if it stands after a line, and before another one if there is one.
+/// A sentence of the file about calls.
+#[derive(Clone, Copy)]
+struct SentenceAtCalls {
+    /// Its place among those about calls, from 0.
+    place: usize,
+    /// The line in which it stands.
+    line: usize,
+}
+
+/// Adds a sentence about calls, if it stands in one of these lines.
 fn add_call_sentence(
     alloc: Global,
     asked: &mut Vec<AskedTest>,
     sources: &ExploredSources<'_>,
-    after: usize,
-    before: Option<usize>,
-    place: usize,
-    line: usize,
+    lines: LinesBetween,
+    sentence: SentenceAtCalls,
 ) -> Result<(), AllocError>
     ensures { OnOk result (map (λ t. t.kind) asked.new.items ≡ map (λ t. t.kind) asked.old.items
-        ++ (if spec.is_between after before line then kind.CallSentence place ∷ [] else [])) }
+        ++ (if spec.is_between lines.after lines.before sentence.line
+        then kind.CallSentence sentence.place ∷ [] else [])) }
 {
-    if is_between(after, before, line) {
+    let SentenceAtCalls { place, line } = sentence;
+    if lines.contains(line) {
         add_sentence(alloc, asked, sources, SeenKind::CallSentence(place), line)
     } else {
         Ok(())
     }
 }
 
-/// Adds the sentences of the file about calls that stand after a line, and before another one if there is one.
+/// Adds the sentences of the file about calls that stand in these lines.
 #[tactic(auto, using(crate::proofs::SeenLists::calls_between_at))]
 fn add_call_sentences(
     alloc: Global,
     asked: &mut Vec<AskedTest>,
     sources: &ExploredSources<'_>,
-    after: usize,
-    before: Option<usize>,
+    lines: LinesBetween,
 ) -> Result<(), AllocError>
     ensures { OnOk result (map (λ t. t.kind) asked.new.items ≡ map (λ t. t.kind) asked.old.items
-        ++ spec.calls_between after before 0 sources.now.sentences.call_sentences.now) }
+        ++ spec.calls_between lines.after lines.before 0 sources.now.sentences.call_sentences.now) }
 {
     let calls = sources.sentences.call_sentences;
     for place in 0..calls.len() {
+        let line = calls[place].line;
         add_call_sentence(
             alloc,
             asked,
             sources,
-            after,
-            before,
-            place,
-            calls[place].line,
+            lines,
+            SentenceAtCalls { place, line },
         )?;
     }
     Ok(())
@@ -107,7 +128,11 @@ fn asked_sentences(
     let mut last: usize = 0;
     for i in 0..expected.len() {
         let line = expected[i].line;
-        add_call_sentences(alloc, &mut asked, sources, last, Some(line))?;
+        let lines = LinesBetween {
+            after: last,
+            before: Some(line),
+        };
+        add_call_sentences(alloc, &mut asked, sources, lines)?;
         add_sentence(
             alloc,
             &mut asked,
@@ -117,7 +142,11 @@ fn asked_sentences(
         )?;
         last = line;
     }
-    add_call_sentences(alloc, &mut asked, sources, last, None)?;
+    let lines = LinesBetween {
+        after: last,
+        before: None,
+    };
+    add_call_sentences(alloc, &mut asked, sources, lines)?;
     Ok(asked)
 }
 

@@ -1,18 +1,10 @@
 //! Limits of interrupts that have no handler, which leave nothing out of a search.
-ghost use Rattle.std.specs.Prelude.{◌≡◌, nat_eq};
-ghost use Rattle.std.specs.List.{list_any};
 ghost use Rattle.fmp_searching.specs.Deeds.{SaysOnly};
 
 use fmp_base::System;
 use fmp_files::Outside;
+use fmp_frames::is_handled;
 use fmp_schedules::InterruptLimit;
-
-/// Whether the interrupt of this number has a handler.
-fn is_handled(sys: &System, number: u8) -> bool
-    ensures { result ≡ list_any (λ config. nat_eq config.number number) sys.now.interrupts.items }
-{
-    sys.interrupts.iter().any(|config| config.number == number)
-}
 
 /// Says of which interrupt without a handler a word of `--int` or `--gap` speaks.
 fn say_option<O: Outside>(outside: &mut O, option: &'static str, interrupt: u8, number: u32)

@@ -14,6 +14,15 @@ use fmp_monitors::{Sentence, has_premise};
 use fmp_schedules::MonitorSubject;
 use std::alloc::{AllocError, Global};
 
+/// A monitor of a question, and whether what it speaks of came.
+#[derive(Clone, Copy)]
+pub struct Watched {
+    /// Its place among the monitors of the question, from 0.
+    pub place: usize,
+    pub monitor: Monitor,
+    pub came: bool,
+}
+
 /// Whether what a monitor watches says nothing, by whether what it speaks of came.
 pub fn is_unsaid(subject: &MonitorSubject, came: bool) -> bool
     ensures { result ≡ spec.is_unsaid subject.now came }
@@ -147,20 +156,19 @@ fn say_nothing(
     say(out, "\n")
 }
 
-/// Appends that the sentence of the monitor at a place says nothing, if it does, by whether what it speaks of came.
+/// Appends that the sentence of a monitor says nothing, if it does.
 fn say_unsaid(
     alloc: Global,
     out: &mut Vec<u8>,
     sources: &ExploredSources<'_>,
-    place: usize,
-    monitor: &Monitor,
-    came: bool,
+    watched: Watched,
 ) -> Result<(), AllocError>
-    ensures { OnOk result (out.new.items
-        ≡ out.old.items ++ extent.unsaid_line (source_tables sources.now) place monitor.now came) }
+    ensures { OnOk result (out.new.items ≡ out.old.items
+        ++ extent.unsaid_line (source_tables sources.now) watched.place watched.monitor watched.came) }
 {
-    if is_unsaid(&monitor.subject, came) {
-        say_nothing(alloc, out, sources, place, &monitor.subject)
+    let subject = &watched.monitor.subject;
+    if is_unsaid(subject, watched.came) {
+        say_nothing(alloc, out, sources, watched.place, subject)
     } else {
         Ok(())
     }
@@ -181,14 +189,13 @@ fn say_each_unsaid(
 {
     let count = monitors.len().min(premises.len());
     for place in 0..count {
-        say_unsaid(
-            alloc,
-            out,
-            sources,
+        let (monitor, came) = (monitors[place], premises[place]);
+        let watched = Watched {
             place,
-            &monitors[place],
-            premises[place],
-        )?;
+            monitor,
+            came,
+        };
+        say_unsaid(alloc, out, sources, watched)?;
     }
     Ok(())
 }

@@ -5,11 +5,11 @@ ghost use Rattle.fmp_searching.specs.Extent.{varied_name};
 ghost use Rattle.fmp_searching.specs.Sources.{source_tables};
 ghost use Rattle.fmp_searching.specs.Varied as spec;
 
-use crate::claiming::{append, append_number};
 use crate::naming::append_name;
 use crate::sentences::append_sentence;
 use crate::sources::ExploredSources;
 use fmp_explore::Varied;
+use fmp_json::{append, append_number};
 use fmp_monitors::Sentence;
 use fmp_schedules::{InterruptLimit, MonitorSubject};
 use std::alloc::{AllocError, Global};

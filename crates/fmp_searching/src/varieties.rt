@@ -3,11 +3,11 @@ ghost use Rattle.std.specs.Prelude.{◌≡◌, ◌++◌, OnOk};
 ghost use Rattle.fmp_searching.specs.Extent as spec;
 ghost use Rattle.fmp_searching.specs.Sources.{source_tables};
 
-use crate::claiming::append_number;
 use crate::naming::is_queue;
 use crate::sources::{ExploredSources, say};
 use crate::varied::append_varied;
 use fmp_explore::{Varied, Variety};
+use fmp_json::append_number;
 use std::alloc::{AllocError, Global};
 
 /// What is said of how a field gets fewer values.

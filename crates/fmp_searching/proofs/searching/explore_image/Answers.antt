@@ -1,8 +1,8 @@
-use Rattle.std.proofs.Common.{Ok, inr, subst, sym}
+use Rattle.std.proofs.Common.{Ok, inl, inr, subst, sym}
 use Rattle.std.proofs.lemmas.Result.{IfOk-weaker}
 use Rattle.fmp_searching.specs.declared.asking.ExploreWords.{ExploreWords}
 use Rattle.fmp_searching.specs.Questions.{IsWanted}
-use Rattle.fmp_searching.proofs.Doing.{on_err, says_may, says_quiet}
+use Rattle.fmp_searching.proofs.Doing.{if_ok, on_err, says_idle, says_may}
 use Rattle.fmp_searching.proofs.searching.explore_image.Goals as goal
 
 pub question_by-requires : goal.question_by-requires
@@ -65,7 +65,13 @@ pub returns-clause-quiet : goal.returns-clause-quiet
 returns-clause-quiet g c =
     let done = g.O.Outside.done in
     on_err c.refuse_question.result
-    (says_quiet (done c.args.outside.now) (done c.refuse_question.new.outside) c.refuse_question.ensures.says)
+    (says_idle (done c.args.outside.now) (done c.refuse_question.new.outside) c.refuse_question.ensures.says)
+
+pub returns-clause-shown : goal.returns-clause-shown
+returns-clause-shown g c =
+    let done = g.O.Outside.done in
+    if_ok c.refuse_question.result
+    (inl (says_idle (done c.args.outside.now) (done c.refuse_question.new.outside) c.refuse_question.ensures.says))
 
 pub returns-clause-keeps : goal.returns-clause-keeps
 returns-clause-keeps g c = λ apart.

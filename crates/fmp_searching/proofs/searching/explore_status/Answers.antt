@@ -1,6 +1,6 @@
 use Rattle.std.proofs.Common.{inl}
-use Rattle.fmp_searching.proofs.Doing.{only_then, refusal_may, says_may, says_quiet}
-use Rattle.fmp_searching.proofs.Printing.{quiet_before, quiet_said, quiet_then}
+use Rattle.fmp_searching.proofs.Doing.{only_then, refusal_may, said_idle, says_idle, says_may, says_quiet}
+use Rattle.fmp_searching.proofs.Printing.{quiet_before}
 use Rattle.fmp_searching.proofs.ShownLemmas.{shown_after}
 use Rattle.fmp_searching.proofs.searching.explore_status.Goals as goal
 
@@ -15,8 +15,7 @@ pub returns-in-Ok-clause-shown : goal.returns-in-Ok-clause-shown
 returns-in-Ok-clause-shown g c =
     let done = g.O.Outside.done in
     let shown = rw c.in-Ok.is at c.explore_image.ensures.shown in
-    shown_after _ _ _ _ _ _ _ _
-    (says_quiet (done c.args.outside.now) (done c.say_unhandled.new.outside) c.say_unhandled.ensures) shown
+    shown_after _ _ _ _ _ (done c.args.outside.now) (done c.say_unhandled.new.outside) _ c.say_unhandled.ensures shown
 
 pub returns-in-Ok-clause-keeps : goal.returns-in-Ok-clause-keeps
 returns-in-Ok-clause-keeps g c = λ apart.
@@ -31,10 +30,10 @@ returns-in-Err-clause-shown g c =
     let done = g.O.Outside.done in
     let quiet = rw c.in-Err.is at c.explore_image.ensures.quiet in
     inl
-    (quiet_then _ _ _
-    (says_quiet (done c.args.outside.now) (done c.say_unhandled.new.outside) c.say_unhandled.ensures)
-    (quiet_then _ _ _ quiet
-    (quiet_said (done c.explore_image.new.outside) (done c.end.new.outside) c.end.ensures.said)))
+    (only_then _ _ _
+    (says_idle (done c.args.outside.now) (done c.say_unhandled.new.outside) c.say_unhandled.ensures)
+    (only_then _ _ _ quiet
+    (said_idle (done c.explore_image.new.outside) (done c.end.new.outside) c.end.ensures.said)))
 
 pub returns-in-Err-clause-keeps : goal.returns-in-Err-clause-keeps
 returns-in-Err-clause-keeps g c = λ apart.

@@ -49,7 +49,8 @@ returns-in-Ok-clause-shown g c =
     c.explore_status-status.ensures.shown
 
 pub returns-in-Err-clause-shown : goal.returns-in-Err-clause-shown
-returns-in-Err-clause-shown g c = fault_of_texts _ _ _ _ _ _ _ c.refuse_texts.ensures.shown
+returns-in-Err-clause-shown g c =
+    fault_of_texts _ _ _ _ _ _ _ c.refuse_texts.ensures.tells c.refuse_texts.ensures.shown
 
 pub returns-in-Err-clause-keeps : goal.returns-in-Err-clause-keeps
 returns-in-Err-clause-keeps g c = λ apart.

@@ -9,12 +9,10 @@ pub returns-clause-shown : goal.returns-clause-shown
 returns-clause-shown g c =
     IfOk-weaker c.explore_sources.result _ _
     (λ status h. record {
-      positions = c.args.sources.now.positions.now;
-      stand = c.requires.stand;
       names = c.args.sources.now.names.now;
       so =
           subst
-          (λ (s : SourceTables). HasShown s (g.O.Outside.done c.args.outside.now)
+          (λ (s : SourceTables). HasShown c.args.opened.now.exploring.now s (g.O.Outside.done c.args.outside.now)
           (g.O.Outside.done c.explore_sources.new.outside))
           c.requires.same h;
     }) c.explore_sources.ensures.shown
@@ -23,8 +21,6 @@ pub returns-clause-claimed : goal.returns-clause-claimed
 returns-clause-claimed g c =
     IfOk-weaker c.explore_sources.result _ _
     (λ status h is. record {
-      positions = c.args.sources.now.positions.now;
-      stand = c.requires.stand;
       names = c.args.sources.now.names.now;
       so =
           subst (λ (s : SourceTables). HasClaimed s (g.O.Outside.done c.explore_sources.new.outside)) c.requires.same
@@ -35,8 +31,6 @@ pub returns-clause-ended : goal.returns-clause-ended
 returns-clause-ended g c =
     IfOk-weaker c.explore_sources.result _ _
     (λ status h is. record {
-      positions = c.args.sources.now.positions.now;
-      stand = c.requires.stand;
       names = c.args.sources.now.names.now;
       so =
           subst
@@ -49,8 +43,6 @@ pub returns-clause-mistaken : goal.returns-clause-mistaken
 returns-clause-mistaken g c =
     IfOk-weaker c.explore_sources.result _ _
     (λ status h is. record {
-      positions = c.args.sources.now.positions.now;
-      stand = c.requires.stand;
       names = c.args.sources.now.names.now;
       so =
           subst (λ (s : SourceTables). HasShownAll s (g.O.Outside.done c.explore_sources.new.outside)) c.requires.same

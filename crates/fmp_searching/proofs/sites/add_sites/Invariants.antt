@@ -4,5 +4,5 @@ use Rattle.fmp_searching.proofs.sites.add_sites.Given as goal
 
 abbrev pub invariant-loop-at : goal.invariant-loop-at
 invariant-loop-at l =
-    l.sites.items ++ sites_at l.body l.line (drop l.at l.positions) (drop l.at l.lines)
-    ≡ l.initial.sites.items ++ sites_at l.body l.line l.positions l.lines
+    l.sites.items ++ sites_at l.body l.line (drop l.at l.positions) (drop l.at l.calls)
+    ≡ l.initial.sites.items ++ sites_at l.body l.line l.positions l.calls

@@ -11,6 +11,7 @@ loop-i-preserved g c =
     record {
       quiet = quiet_then _ _ _ c.loop-i.invariant.quiet c.write_at.ensures.quiet;
       only = only_then _ _ _ c.loop-i.invariant.only c.write_at.ensures.only;
+      fronts = only_then _ _ _ c.loop-i.invariant.fronts c.write_at.ensures.fronts;
       written =
           written_step string_bytes (λ text. text.items) c.args.names.now c.args.texts.now c.loop-i.i
           (done c.args.outside.now) (done c.loop-i.outside) (done c.write_at.new.outside)
@@ -26,8 +27,14 @@ returns-in_err-write_at-clause-quiet g c =
 pub returns-in_err-write_at-clause-only : goal.returns-in_err-write_at-clause-only
 returns-in_err-write_at-clause-only g c = only_then _ _ _ c.loop-i.invariant.only c.write_at.ensures.only
 
+pub returns-in_err-write_at-clause-fronts : goal.returns-in_err-write_at-clause-fronts
+returns-in_err-write_at-clause-fronts g c = only_then _ _ _ c.loop-i.invariant.fronts c.write_at.ensures.fronts
+
 pub returns-clause-only : goal.returns-clause-only
 returns-clause-only g c = c.loop-i.invariant.only
+
+pub returns-clause-fronts : goal.returns-clause-fronts
+returns-clause-fronts g c = c.loop-i.invariant.fronts
 
 pub returns-clause-written : goal.returns-clause-written
 returns-clause-written g c =

@@ -1,9 +1,0 @@
-use Rattle.std.proofs.Common.{◌≡◌, ◌++◌, drop}
-use Rattle.fmp_searching.specs.Extent.{unrun_word}
-use Rattle.fmp_searching.specs.Lines.{numbered}
-use Rattle.fmp_searching.proofs.covering.say_unrun_tasks.Given as goal
-
-abbrev pub invariant-loop-t : goal.invariant-loop-t
-invariant-loop-t l =
-    l.out.items ++ numbered (λ t x ran. unrun_word x.name ran) l.t (drop l.t l.tasks) (drop l.t l.ran)
-    ≡ l.initial.out.items ++ numbered (λ t x ran. unrun_word x.name ran) 0 l.tasks l.ran

@@ -1,0 +1,12 @@
+use Rattle.std.proofs.Common.{◌≡◌, ◌++◌, drop}
+use Rattle.fmp_searching.specs.ExtentRecords.{unrun_record}
+use Rattle.fmp_searching.specs.Lines.{numbered}
+use Rattle.fmp_searching.proofs.peak_records.append_unrun_rows.Given as goal
+
+abbrev pub invariant-loop-i : goal.invariant-loop-i
+invariant-loop-i g l =
+    l.out.items
+    ++ numbered (λ i x ran. unrun_record (g.T.HasName.name_of x) ran) l.i
+    (drop l.i l.rows) (drop l.i l.ran)
+    ≡ l.initial.out.items
+    ++ numbered (λ i x ran. unrun_record (g.T.HasName.name_of x) ran) 0 l.rows l.ran
