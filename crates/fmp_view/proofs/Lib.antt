@@ -1,3 +1,4 @@
+pub mod BegunDeeds
 mod CommandLemmas
 mod Endings
 mod FormLemmas

@@ -17,7 +17,7 @@ use Rattle.fmp_looking.proofs.TestEnds.{refusal_by, three_refuses}
 use Rattle.fmp_view.specs.declared.settings.Added.{Added}
 use Rattle.fmp_view.specs.declared.settings.SettingsExit.{SettingsExit}
 use Rattle.fmp_view.specs.declared.settings.SettingsExit.TheVariants as exit
-use Rattle.fmp_view.specs.Ends.{ComesTo, Ends, IsOfSettings, Obeys, Shows, Tells, alone, with_settings}
+use Rattle.fmp_view.specs.Ends.{ComesTo, Ends, IsOfSettings, RunsCommand, Shows, Tells, alone, with_settings}
 use Rattle.fmp_view.specs.Form.{IsEntered, IsRefused}
 use Rattle.fmp_view.specs.Settings.{status_of}
 
@@ -29,13 +29,13 @@ shows words before after kind refused h =
 
 module _ (files : Files) (words : List Text) (before after : Option (List Deed)) (status : ℕ) where
   -- the command that parsed words enter was carried out
-  pub obeys : (entered : Option (Text × List Row)) → IfSome entered (IsEntered words) → is_some entered ≡ true
-      → ComesTo files entered before after status → Obeys files words before after status
-  obeys None is some comes = absurd (cc (some))
-  obeys (Some e) is some comes = record { entered = e; is = is; comes = comes }
+  pub runs_command : (entered : Option (Text × List Row)) → IfSome entered (IsEntered words) → is_some entered ≡ true
+      → ComesTo files entered before after status → RunsCommand files words before after status
+  runs_command None is some comes = absurd (cc (some))
+  runs_command (Some e) is some comes = record { entered = e; is = is; comes = comes }
 
   -- with no settings
-  pub ends_alone : Shows words before after ⊎ Obeys files words before after status
+  pub ends_alone : Shows words before after ⊎ RunsCommand files words before after status
       → Ends files words before after status
   ends_alone how = record { between = before; words = words; takes = alone refl refl; ends = how }
 
@@ -44,7 +44,7 @@ pub ends_added : (files files_then : Files) (typed : List (String Global)) (word
     (before between after : Option (List Deed)) (status : ℕ)
     → files_then ≡ files → IsOfSettings files a → Tells a before between
     → words ≡ joined (map string_bytes (take 2 typed)) (texts_of a.words) (map string_bytes (drop 2 typed))
-    → Shows words between after ⊎ Obeys files_then words between after status
+    → Shows words between after ⊎ RunsCommand files_then words between after status
     → Ends files (map string_bytes typed) before after status
 ends_added files files_then typed words a before between after status same of tells is how =
     record {
@@ -55,7 +55,7 @@ ends_added files files_then typed words a before between after status same of te
           (is ∙ ap₂ (λ (names rest : List Text). joined names (texts_of a.words) rest)
           (sym (take-map string_bytes 2 typed))
           (sym (drop-map string_bytes 2 typed)));
-      ends = subst (λ (f : Files). Shows words between after ⊎ Obeys f words between after status) same how;
+      ends = subst (λ (f : Files). Shows words between after ⊎ RunsCommand f words between after status) same how;
     }
 
 -- settings that are not used end the program with a refusal

@@ -57,14 +57,15 @@ pub record Shows (words : List Text) (before after : Option (List Deed)) : Type 
   pub printed : Prints before text after
 
 -- the command that words enter comes to this
-pub record Obeys (files : Files) (words : List Text) (before after : Option (List Deed)) (status : ℕ) : Type 0 where
-  pub entered : Text × List Row
-  pub is : IsEntered words entered
-  pub comes : ComesTo files (Some entered) before after status
+pub record RunsCommand (files : Files) (words : List Text) (before after : Option (List Deed)) (status : ℕ) : Type 0
+  where
+    pub entered : Text × List Row
+    pub is : IsEntered words entered
+    pub comes : ComesTo files (Some entered) before after status
 
 -- how the program ends where these words are typed
 pub record Ends (files : Files) (typed : List Text) (before after : Option (List Deed)) (status : ℕ) : Type 0 where
   pub between : Option (List Deed)
   pub words : List Text
   pub takes : Takes files before typed between words
-  pub ends : Shows words between after ⊎ Obeys files words between after status
+  pub ends : Shows words between after ⊎ RunsCommand files words between after status

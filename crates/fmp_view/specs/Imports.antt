@@ -1,5 +1,6 @@
 -- What `import` writes or prints.
 use Rattle.std.specs.Prelude.{ℕ, List, [], ◌∷◌, Ok, Option, Some, None, IfSome}
+use Rattle.std.specs.List.{AllByRecursion}
 use denote.Ref.{Bor}
 use Rattle.fmp_files.specs.Deeds.{Deed, Does, Says, wrote}
 use Rattle.fmp_files.specs.Outside.{Files}
@@ -24,11 +25,22 @@ pub record HasImportedText (text : List ℕ) (out : Option (Bor (List ℕ))) (be
     pub notes : Says before noted
     pub gives : Gives out imported.configuration.items noted after
 
--- the same of the text of a file
+-- the file that is written, if one is named, is none of these
+abbrev pub AreApartFrom : Files → (out : Option (Bor (List ℕ))) → (names : List (List ℕ)) → Type 0
+AreApartFrom files out names = IfSome out (λ out. AllByRecursion (AreApart files out.now) names)
+
+-- the same, and none of these files is written
+pub record HasImportedSource (files : Files) (included : List (List ℕ)) (text : List ℕ) (out : Option (Bor (List ℕ)))
+    (before after : Option (List Deed)) : Type 0 where
+  pub apart : AreApartFrom files out included
+  pub has : HasImportedText text out before after
+
+-- the same of the text of a file, and of the files that it is found to include
 pub record HasImportedFile (files : Files) (x : Importing) (before after : Option (List Deed)) : Type 0 where
   pub text : List ℕ
   pub is_text : IsFile files x.cfg.now text
-  pub has : HasImportedText text x.out before after
+  pub included : List (List ℕ)
+  pub has : HasImportedSource files included text x.out before after
 
 -- the same, and the file that is written is not the one that is read
 pub record HasImported (files : Files) (x : Importing) (before after : Option (List Deed)) : Type 0 where

@@ -1,5 +1,6 @@
 pub mod Apart
 pub mod Asked
+pub mod Begun
 pub mod Commands
 pub mod Ends
 pub mod Expected

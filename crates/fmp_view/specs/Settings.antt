@@ -1,8 +1,9 @@
 -- What settings add, why they are not used, and which words leave their file as it is.
-use Rattle.std.specs.Prelude.{ℕ, ◌≢◌, List, IfSome, codes}
+use Rattle.std.specs.Prelude.{ℕ, ◌≢◌, List, IfSome, codes, string_bytes}
 use Rattle.clap.specs.Words.{Row, Text, first_of}
 use Rattle.fmp_arguments.specs.declared.keys.Key.{Key}
 use Rattle.fmp_arguments.specs.Joined.{IsAdded}
+use Rattle.fmp_files.specs.Messages.{failure_message}
 use Rattle.fmp_files.specs.Outside.{Files}
 use Rattle.fmp_searching.specs.Claimed.{IsFile}
 use Rattle.fmp_view.specs.declared.settings.SettingsExit.{SettingsExit}
@@ -12,6 +13,11 @@ use Rattle.fmp_view.specs.declared.settings.SettingsExit.TheVariants as exit
 abbrev pub status_of : SettingsExit → ℕ
 status_of (exit.Refused text) = 1
 status_of (exit.Failed failure) = 3
+
+-- what is said
+abbrev pub exit_message : SettingsExit → List ℕ
+exit_message (exit.Refused text) = string_bytes text
+exit_message (exit.Failed failure) = failure_message failure
 
 -- what the text of this file says for options of some names, by keys of settings and from a folder on
 pub record Adds (files : Files) (file : Text) (words : List Text) : Type 0 where

@@ -1,7 +1,8 @@
 -- How commands end that compare and judge runs: with 4 where runs differ or one fails, and with 0 where they do not.
-use Rattle.std.specs.Prelude.{ℕ, ◌≡◌, List, [], Option, Some, None}
+use Rattle.std.specs.Prelude.{ℕ, ◌≡◌, List, [], ◌∷◌, Option, Some, None, IfSome}
+use Rattle.std.specs.Fmt.{with_newline}
 use Rattle.fmp_cfgparse.specs.Configurations.{Describes}
-use Rattle.fmp_files.specs.Deeds.{Deed, Does}
+use Rattle.fmp_files.specs.Deeds.{Deed, Does, said}
 use Rattle.fmp_files.specs.Outside.{Files}
 use Rattle.fmp_files.specs.Prints.{Prints}
 use Rattle.fmp_foreign.specs.Foreign.{foreign_meaning}
@@ -11,8 +12,10 @@ use Rattle.fmp_instructions.specs.Machine.{code_meaning}
 use Rattle.fmp_kernel.specs.Comings.{reaction_of}
 use Rattle.fmp_looking.specs.declared.built_system.BuiltSystem.{BuiltSystem}
 use Rattle.fmp_looking.specs.declared.wanted.Testing.{Testing}
+use Rattle.fmp_looking.specs.declared.exit.ViewExit.{ViewExit}
 use Rattle.fmp_looking.specs.declared.why.Why.{Why}
 use Rattle.fmp_looking.specs.Differences.{IsDifference}
+use Rattle.fmp_looking.specs.Exits.{exit_message}
 use Rattle.fmp_looking.specs.Looks.{OfImage, OfRecording, OfSteps, OfSystem}
 use Rattle.fmp_looking.specs.TestDeeds.{EndsTest}
 use Rattle.fmp_looking.specs.Whys.{IsWhyAt}
@@ -27,6 +30,11 @@ use Rattle.fmp_view.specs.Runs.{OfRun}
 abbrev pub EndsFound : (found : Option (List ℕ)) → (before after : Option (List Deed)) → (status : ℕ) → Type 0
 EndsFound None before after status = Does before [] after × (status ≡ 0)
 EndsFound (Some text) before after status = Prints before text after × (status ≡ 4)
+
+-- it was said why nothing is made of a run, where the sentence of that is defined
+abbrev pub SaysExit : ViewExit → (before after : Option (List Deed)) → Type 0
+SaysExit exit before after =
+    IfSome (with_newline (exit_message exit)) (λ line. Does before (said line ∷ []) after)
 
 -- a text says what each task of a run waits or spins for after an event
 abbrev pub IsWhyOf : Files → RunFiles → Why → (text : List ℕ) → Type 0

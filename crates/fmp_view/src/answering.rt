@@ -66,10 +66,10 @@ pub struct GivenCommand<'a> {
 
 /// An event that a session took.
 #[derive(Clone, Copy)]
-struct ToldEvent {
+pub struct ToldEvent {
     event: Event,
     /// What it came to.
-    taken: TakenEvent,
+    pub taken: TakenEvent,
     /// Where its call stands, if it makes one and answers tell it.
     position: Option<CallPosition>,
 }
@@ -164,7 +164,7 @@ fn line_of(alloc: Global, session: &Session<'_>, told: ToldEvent) -> Result<Vec<
 }
 
 /// Appends what is told of an event.
-fn append_taken(
+pub fn append_taken(
     alloc: Global,
     session: &Session<'_>,
     form: Form,
@@ -190,33 +190,26 @@ fn told_position(session: &Session<'_>, stepping: Stepping<'_>, e: Event) -> Opt
     }
 }
 
-/// Takes an event, and appends what is told of it; of one that does nothing only if that is told.
+/// Takes an event. `AllocError` if memory runs out.
 pub fn take_event(
-    alloc: Global,
     session: &mut Session<'_>,
     stepping: Stepping<'_>,
     e: Event,
-    tells_nothing: bool,
-    out: &mut Vec<u8>,
-) -> Result<TakenEvent, AllocError>
+) -> Result<ToldEvent, AllocError>
     requires { IsSession session.old }
     ensures session { IsSession session.new }
-    ensures events { IfOk result (λ taken. session.new.events.items
-        ≡ with_event taken e session.old.events.items) }
-    ensures exact { IfOk result (IsTakenAs session.old e) }
+    ensures events { IfOk result (λ told. session.new.events.items
+        ≡ with_event told.taken e session.old.events.items) }
+    ensures exact { IfOk result (λ told. IsTakenAs session.old e told.taken) }
     ensures takes { OnOk result (HasTaken session.old (e ∷ []) session.new) }
 {
     let position = told_position(session, stepping, e);
     let taken = session.take(e)?;
-    if tells_nothing || !matches!(taken, TakenEvent::Nothing) {
-        let told = ToldEvent {
-            event: e,
-            taken,
-            position,
-        };
-        append_taken(alloc, session, stepping.form, told, out)?;
-    }
-    Ok(taken)
+    Ok(ToldEvent {
+        event: e,
+        taken,
+        position,
+    })
 }
 
 /// Whether an event that a session took did something.
@@ -239,8 +232,9 @@ pub fn take_one(
     ensures takes { IfOk result (λ did. Takes session.old e did session.new) }
     ensures has { OnOk result (HasTaken session.old (e ∷ []) session.new) }
 {
-    let taken = take_event(alloc, session, stepping, e, true, out)?;
-    Ok(is_deed(taken))
+    let told = take_event(session, stepping, e)?;
+    append_taken(alloc, session, stepping.form, told, out)?;
+    Ok(is_deed(told.taken))
 }
 
 /// Takes an event this many times, up to the first time that it does nothing, and gives what is told of it.

@@ -81,7 +81,7 @@ pub struct Picturing<'a> {
     /// The file to which it is written.
     pub out: &'a str,
     pub drawing: Drawing,
-    /// The task text in which the places of calls are shown, if there is one.
+    /// The task text in which the positions of calls are shown, if there is one.
     pub src: Option<&'a str>,
 }
 

@@ -1,11 +1,13 @@
 //! The command `export`: the bodies of a text as C, in a folder with what builds and runs them.
-ghost use Rattle.std.specs.Prelude.{◌≡◌, ◌<◌, ◌∷◌, [], Bool, IfOk, IfSome, OnOk, false, length, map, slice_get, true};
+ghost use Rattle.std.specs.Prelude.{◌≡◌, ◌≢◌, ◌<◌, ◌∷◌, [], Bool, IfOk, IfSome, OnErr, OnOk, false, length, map};
+ghost use Rattle.std.specs.Prelude.{slice_get, true};
 ghost use Rattle.std.specs.List.{AllByRecursion};
 ghost use Rattle.std.specs.String.{string_bytes};
-ghost use Rattle.fmp_files.specs.Deeds.{Does, wrote};
+ghost use Rattle.fmp_files.specs.Deeds.{Begins, Does, wrote};
 ghost use Rattle.fmp_view.specs.Apart.{IsApartFromTexts};
+ghost use Rattle.fmp_view.specs.Begun.{BeginsDeeds};
 ghost use Rattle.fmp_view.specs.Exports.{HasExported, HasExportedFiles, HasExportedTexts, IsExportOf, KeepsMain};
-ghost use Rattle.fmp_view.specs.Exports.{files_of, in_folder, main_file};
+ghost use Rattle.fmp_view.specs.Exports.{Stops, StopsExport, StopsFiles, StopsTexts, files_of, in_folder, main_file};
 
 use crate::inputs::is_text;
 use crate::word_mistakes::files_over_input;
@@ -150,7 +152,9 @@ pub fn write_in<O: Outside>(
     file: &str,
     bytes: &[u8],
 ) -> Result<(), Failure>
-    ensures { OnOk result (Does (O.done outside.old) (wrote (in_folder folder.now file.now) bytes.now ∷ [])
+    ensures ok { OnOk result (Does (O.done outside.old) (wrote (in_folder folder.now file.now) bytes.now ∷ [])
+        (O.done outside.new)) }
+    ensures begun { OnErr result (Begins (wrote (in_folder folder.now file.now)) bytes.now (O.done outside.old)
         (O.done outside.new)) }
 {
     let name = name_in(alloc, folder, file)?;
@@ -166,7 +170,9 @@ fn write_main<O: Outside>(
     main: &[u8],
     keeps_main: bool,
 ) -> Result<(), Failure>
-    ensures { OnOk result (Does (O.done outside.old) (main_file folder.now main.now keeps_main)
+    ensures ok { OnOk result (Does (O.done outside.old) (main_file folder.now main.now keeps_main)
+        (O.done outside.new)) }
+    ensures begun { OnErr result (BeginsDeeds (main_file folder.now main.now keeps_main) (O.done outside.old)
         (O.done outside.new)) }
 {
     if keeps_main {
@@ -182,7 +188,9 @@ fn write_project<O: Outside>(
     project: Project<'_>,
     keeps_main: bool,
 ) -> Result<(), Failure>
-    ensures { OnOk result (Does (O.done outside.old) (files_of project.entry keeps_main) (O.done outside.new)) }
+    ensures ok { OnOk result (Does (O.done outside.old) (files_of project.entry keeps_main) (O.done outside.new)) }
+    ensures begun { OnErr result (BeginsDeeds (files_of project.entry keeps_main) (O.done outside.old)
+        (O.done outside.new)) }
 {
     let Project {
         folder,
@@ -204,8 +212,12 @@ fn make_project<O: Outside, R: Files>(
     rt: &R,
     project: Project<'_>,
 ) -> Result<(), Failure>
-    ensures { OnOk result ((keeps_main : Bool) × KeepsMain (O.files outside.old) project.entry.folder.now keeps_main
+    ensures ok { OnOk result ((keeps_main : Bool)
+        × KeepsMain (O.files outside.old) project.entry.folder.now keeps_main
         × Does (O.done outside.old) (files_of project.entry keeps_main) (O.done outside.new)) }
+    ensures begun { OnErr result ((keeps_main : Bool)
+        × KeepsMain (O.files outside.old) project.entry.folder.now keeps_main
+        × BeginsDeeds (files_of project.entry keeps_main) (O.done outside.old) (O.done outside.new)) }
 {
     make_folder(alloc, rt, project.folder)?;
     let keeps_main = has_main(alloc, outside, rt, project.folder)?;
@@ -214,8 +226,11 @@ fn make_project<O: Outside, R: Files>(
 
 /// Makes a folder with its files, and gives the status.
 fn give<O: Outside, R: Files>(alloc: Global, outside: &mut O, rt: &R, project: Project<'_>) -> u8
-    ensures { result ≡ 0 → (keeps_main : Bool) × KeepsMain (O.files outside.old) project.entry.folder.now keeps_main
+    ensures given { result ≡ 0 → (keeps_main : Bool)
+        × KeepsMain (O.files outside.old) project.entry.folder.now keeps_main
         × Does (O.done outside.old) (files_of project.entry keeps_main) (O.done outside.new) }
+    ensures stopped { result ≢ 0 → Stops (O.files outside.old) project.entry (O.done outside.old)
+        (O.done outside.new) }
 {
     match make_project(alloc, outside, rt, project) {
         Ok(()) => 0,
@@ -224,6 +239,7 @@ fn give<O: Outside, R: Files>(alloc: Global, outside: &mut O, rt: &R, project: P
 }
 
 /// Exports two texts, or prints their first fault, with status 1.
+#[tactic(auto, using(crate::proofs::BegunDeeds::saying_tells))]
 fn export_texts<O: Outside, R: Files>(
     alloc: Global,
     outside: &mut O,
@@ -231,7 +247,9 @@ fn export_texts<O: Outside, R: Files>(
     texts: Texts<'_>,
     exporting: Exporting<'_>,
 ) -> u8
-    ensures { result ≡ 0 → HasExportedTexts (O.files outside.old) exporting.entry.lines texts.entry
+    ensures exported { result ≡ 0 → HasExportedTexts (O.files outside.old) exporting.entry.lines texts.entry
+        exporting.entry.folder.now (O.done outside.old) (O.done outside.new) }
+    ensures stopped { result ≢ 0 → StopsTexts (O.files outside.old) exporting.entry.lines texts.entry
         exporting.entry.folder.now (O.done outside.old) (O.done outside.new) }
 {
     match exported(alloc, exporting.lines, texts.cfg, texts.src) {
@@ -249,13 +267,16 @@ fn export_texts<O: Outside, R: Files>(
 }
 
 /// Exports the texts of two files, or prints their first fault, with status 1.
+#[tactic(auto, using(crate::proofs::BegunDeeds::saying_tells, crate::proofs::Projects::stops_files))]
 fn export_files<O: Outside, R: Files>(
     alloc: Global,
     outside: &mut O,
     rt: &R,
     exporting: Exporting<'_>,
 ) -> u8
-    ensures { result ≡ 0 → HasExportedFiles (O.files outside.old) exporting.entry
+    ensures exported { result ≡ 0 → HasExportedFiles (O.files outside.old) exporting.entry
+        (O.done outside.old) (O.done outside.new) }
+    ensures stopped { result ≢ 0 → StopsFiles (O.files outside.old) exporting.entry
         (O.done outside.old) (O.done outside.new) }
 {
     match read_both(alloc, outside, exporting.names.cfg, exporting.names.src) {
@@ -271,13 +292,16 @@ fn export_files<O: Outside, R: Files>(
 }
 
 /// Exports the texts of two files to a folder that this runtime reaches, or prints their first fault, with status 1.
+#[tactic(auto, using(crate::proofs::BegunDeeds::saying_tells))]
 pub fn run_export<O: Outside, R: Files>(
     alloc: Global,
     outside: &mut O,
     rt: &R,
     exporting: Exporting<'_>,
 ) -> u8
-    ensures { result ≡ 0 → HasExported (O.files outside.old) exporting.entry
+    ensures exported { result ≡ 0 → HasExported (O.files outside.old) exporting.entry
+        (O.done outside.old) (O.done outside.new) }
+    ensures stopped { result ≢ 0 → StopsExport (O.files outside.old) exporting.entry
         (O.done outside.old) (O.done outside.new) }
 {
     match overwrites_input(alloc, outside, exporting.names, exporting.folder, FILES) {

@@ -4,6 +4,7 @@ ghost use Rattle.clap.specs.Words.{app_of};
 ghost use Rattle.fmp_arguments.specs.Forms.{app_of_form};
 ghost use Rattle.fmp_view.specs.Form.{Choices, IsForm, bare, commands, with_command};
 
+use crate::export_form::EXPORT;
 use crate::import_form::import_command;
 use clap::Command;
 use fmp_arguments::{
@@ -154,22 +155,6 @@ a log for TraceLogVisualizer; or the resource file of such a log";
 /// The words of `--format`.
 const FORMATS: &[&str] = &["vcd", "perfetto", "tlv", "res"];
 
-/// The help on `--c`.
-const DIR: &str =
-    "Folder that gets bodies.h, bodies.c, main.c, Makefile, and the two texts as system.cfg and system.src, in
-place of files of these names; but a main.c that is there is kept. The folder is made if it is not there";
-
-/// The help on `--toppers`.
-const TARGET_DIR: &str =
-    "Folder that gets system.cfg, bodies.h and bodies.c for TOPPERS/FMP 1, in place of
-files of these names. The folder is made if it is not there";
-
-/// The help on `--line-directives`.
-const LINE_DIRECTIVES: &str = "Let a debugger show the lines of system.src";
-
-/// The help on `--fmp3`.
-const FMP3: &str = "Write them for TOPPERS/FMP3";
-
 /// The greatest number of an event of a run, 2^31: a recording has as many.
 const RUN_EVENTS_MAX: u64 = 1 << 31;
 
@@ -295,24 +280,6 @@ static WHY: CommandForm = CommandForm {
         JSON,
     ],
     example: "Example: fmp_view why queue.img drive.steps --at 2",
-};
-
-static EXPORT: CommandForm = CommandForm {
-    name: "export",
-    about: "Writes the bodies of a text as C, with what builds and runs them on the library for C",
-    arguments: &[
-        CFG,
-        SRC,
-        Argument("c", ArgumentKind::Either("DIR", "toppers"), DIR),
-        Argument("toppers", ArgumentKind::Either("DIR", "c"), TARGET_DIR),
-        Argument("fmp3", ArgumentKind::FlagWithout("c"), FMP3),
-        Argument(
-            "line-directives",
-            ArgumentKind::FlagWithout("toppers"),
-            LINE_DIRECTIVES,
-        ),
-    ],
-    example: "Example: fmp_view export examples/queue.cfg examples/queue.src --c queue",
 };
 
 static DIFF: CommandForm = CommandForm {
@@ -447,11 +414,6 @@ pub fn waves_command<'a>(alloc: Global) -> Made<'a> {
 /// The command `timeline`.
 pub fn timeline_command<'a>(alloc: Global) -> Made<'a> {
     command_of(alloc, &TIMELINE)
-}
-
-/// The command `export`.
-pub fn export_command<'a>(alloc: Global) -> Made<'a> {
-    command_of(alloc, &EXPORT)
 }
 
 /// The command line with none of its commands yet.

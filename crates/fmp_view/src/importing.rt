@@ -1,9 +1,13 @@
 //! The command `import`: a configuration of TOPPERS or uITRON becomes one of this project.
-ghost use Rattle.std.specs.Prelude.{◌≡◌, IfSome, false};
+ghost use Rattle.std.specs.Prelude.{◌≡◌, ◌<◌, ℕ, List, IfOk, IfSome, false, length, map, slice_get};
+ghost use Rattle.std.specs.List.{AllByRecursion};
+ghost use Rattle.std.specs.String.{string_bytes};
 ghost use Rattle.fmp_files.specs.Deeds.{Says};
 ghost use Rattle.fmp_import.specs.Imports.{IsImported};
 ghost use Rattle.fmp_view.specs.Apart.{AreApart};
-ghost use Rattle.fmp_view.specs.Imports.{Gives, HasImported, HasImportedFile, HasImportedText};
+ghost use Rattle.fmp_searching.specs.Claimed.{IsFile};
+ghost use Rattle.fmp_view.specs.Imports.{AreApartFrom, Gives, HasImported, HasImportedFile, HasImportedSource};
+ghost use Rattle.fmp_view.specs.Imports.{HasImportedText};
 
 use crate::inputs::is_one_file;
 use crate::word_mistakes::{no_constant, out_over_configuration};
@@ -20,43 +24,70 @@ pub struct Importing<'a> {
     pub out: Option<&'a str>,
 }
 
-/// The name of a file that another one names: it stands beside that, unless its name begins at the root.
-fn name_beside(alloc: Global, cfg: &str, name: &str) -> Result<String, AllocError> {
+/// A file that a configuration includes.
+#[derive(Drop)]
+struct IncludedFile {
+    /// Its name, as it stands in the configuration.
+    name: String,
+    /// Where it is looked for: beside the configuration, unless its name begins at the root.
+    path: String,
+}
+
+/// A configuration that is imported, and the files that it includes.
+#[derive(Clone, Copy)]
+struct Source<'a> {
+    text: &'a [u8],
+    included: &'a [IncludedFile],
+}
+
+/// Where a file is looked for that a configuration includes.
+fn path_beside(alloc: Global, cfg: &str, name: &str) -> Result<String, AllocError> {
     match (name.as_bytes(), cfg.rsplit_once('/')) {
         ([b'/', ..], _) | (_, None) => String::from_str(alloc, name),
         (_, Some((folder, _))) => format!(in alloc; "{folder}/{name}"),
     }
 }
 
-/// A file that a configuration includes, if it stands beside it.
+/// The files that a configuration includes, in order.
+fn included_files(alloc: Global, cfg: &str, text: &[u8]) -> Result<Vec<IncludedFile>, AllocError> {
+    let mut files = Vec::new(alloc);
+    for name in &included(alloc, text)? {
+        files.push(IncludedFile {
+            path: path_beside(alloc, cfg, name.as_str())?,
+            name: String::from_str(alloc, name.as_str())?,
+        })?;
+    }
+    Ok(files)
+}
+
+/// A file that a configuration includes, if it can be read.
 fn header_of<O: Outside>(
     alloc: Global,
     outside: &O,
-    cfg: &str,
-    name: &str,
-) -> Result<Option<Header>, AllocError> {
-    let beside = name_beside(alloc, cfg, name)?;
-    match read_file(alloc, outside, beside.as_str(), None) {
+    file: &IncludedFile,
+) -> Result<Option<Header>, AllocError>
+    ensures { IfOk result (λ header. IfSome header (λ header. IsFile (O.files outside.now) (string_bytes file.now.path)
+        header.text.items)) }
+{
+    match read_file(alloc, outside, file.path.as_str(), None) {
         Ok(text) => {
-            let mut kept = Vec::new(alloc);
-            kept.extend_from_slice(name.as_bytes())?;
-            Ok(Some(Header { name: kept, text }))
+            let name = Vec::from_slice(alloc, file.name.as_bytes())?;
+            Ok(Some(Header { name, text }))
         }
         Err(Failure::File(_)) => Ok(None),
         Err(Failure::Memory(error)) => Err(error),
     }
 }
 
-/// The files that a configuration includes, as far as they stand beside it.
+/// The files that a configuration includes, as far as they can be read.
 fn headers_of<O: Outside>(
     alloc: Global,
     outside: &O,
-    cfg: &str,
-    text: &[u8],
+    included: &[IncludedFile],
 ) -> Result<Vec<Header>, AllocError> {
     let mut headers = Vec::new(alloc);
-    for name in &included(alloc, text)? {
-        if let Some(header) = header_of(alloc, outside, cfg, name.as_str())? {
+    for file in included {
+        if let Some(header) = header_of(alloc, outside, file)? {
             headers.push(header)?;
         }
     }
@@ -78,14 +109,13 @@ fn constants_of(alloc: Global, words: &[&str]) -> Result<Option<Constants>, Allo
 fn imported<O: Outside>(
     alloc: Global,
     outside: &O,
-    cfg: &str,
-    text: &[u8],
+    source: Source<'_>,
     constants: Constants,
 ) -> Result<Imported, ImportFault>
-    ensures { IsImported text.now result }
+    ensures { IsImported source.entry.text.now result }
 {
-    match headers_of(alloc, outside, cfg, text) {
-        Ok(headers) => import(alloc, text, &headers, constants),
+    match headers_of(alloc, outside, source.included) {
+        Ok(headers) => import(alloc, source.text, &headers, constants),
         Err(AllocError) => Err(ImportFault::Memory),
     }
 }
@@ -108,16 +138,17 @@ fn give<O: Outside>(alloc: Global, outside: &mut O, out: Option<&str>, text: &[u
 fn import_text<O: Outside>(
     alloc: Global,
     outside: &mut O,
-    importing: Importing<'_>,
-    text: &[u8],
+    out: Option<&str>,
+    source: Source<'_>,
     constants: Constants,
 ) -> u8
-    ensures { result ≡ 0 → HasImportedText text.now importing.entry.out (O.done outside.old) (O.done outside.new) }
+    ensures { result ≡ 0 → HasImportedText source.entry.text.now out.entry (O.done outside.old)
+        (O.done outside.new) }
 {
-    match imported(alloc, outside, importing.cfg, text, constants) {
+    match imported(alloc, outside, source, constants) {
         Ok(imported) => {
             say_bytes(alloc, outside, &imported.notes);
-            give(alloc, outside, importing.out, &imported.configuration)
+            give(alloc, outside, out, &imported.configuration)
         }
         Err(ImportFault::Memory) => end(outside, &Failure::Memory(AllocError)),
         Err(fault) => {
@@ -137,23 +168,60 @@ fn say_bytes<O: Outside>(alloc: Global, outside: &mut O, bytes: &[u8])
     }
 }
 
-/// Whether the file that is written is one that a configuration includes.
-fn is_over_header<O: Outside>(
-    alloc: Global,
+/// Whether a file is the one at a place among those that a configuration includes.
+fn is_included_at<O: Outside>(
     outside: &O,
-    importing: Importing<'_>,
-    text: &[u8],
-) -> Result<bool, AllocError> {
-    let Some(out) = importing.out else {
-        return Ok(false);
-    };
-    for name in &included(alloc, text)? {
-        let beside = name_beside(alloc, importing.cfg, name.as_str())?;
-        if outside.is_one_file(out, beside.as_str()) {
-            return Ok(true);
+    out: &str,
+    included: &[IncludedFile],
+    place: usize,
+) -> bool
+    requires { place < length included.now }
+    ensures { result ≡ false → IfSome (slice_get included.now place) (λ file.
+        AreApart (O.files outside.now) out.now (string_bytes file.path)) }
+{
+    is_one_file(outside, out, included[place].path.as_str())
+}
+
+/// Whether a file is one of those that a configuration includes.
+fn is_included<O: Outside>(outside: &O, out: &str, included: &[IncludedFile]) -> bool
+    ensures { result ≡ false → AllByRecursion (AreApart (O.files outside.now) out.now)
+        (map (λ file. string_bytes file.path) included.now) }
+{
+    for i in 0..included.len() {
+        if is_included_at(outside, out, included, i) {
+            return true;
         }
     }
-    Ok(false)
+    false
+}
+
+/// Whether the file that is written is one that a configuration includes.
+fn is_over_included<O: Outside>(outside: &O, out: Option<&str>, included: &[IncludedFile]) -> bool
+    ensures { result ≡ false → AreApartFrom (O.files outside.now) out.entry
+        (map (λ file. string_bytes file.path) included.now) }
+{
+    match out {
+        Some(out) => is_included(outside, out, included),
+        None => false,
+    }
+}
+
+/// Imports a text that includes these files, unless that would replace one of them, and gives the status.
+fn import_source<O: Outside>(
+    alloc: Global,
+    outside: &mut O,
+    out: Option<&str>,
+    source: Source<'_>,
+    constants: Constants,
+) -> u8
+    ensures { result ≡ 0 → HasImportedSource (O.files outside.old)
+        (map (λ file. string_bytes file.path) source.entry.included.now) source.entry.text.now out.entry
+        (O.done outside.old) (O.done outside.new) }
+{
+    if is_over_included(outside, out, source.included) {
+        return refuse_mistake(outside, out_over_configuration(alloc));
+    }
+    import_text(alloc, outside, out, source, constants)
 }
 
 /// Imports a text with these constants, unless that would replace a file that it includes, and gives the status.
@@ -164,11 +232,17 @@ fn import_read<O: Outside>(
     text: &[u8],
     constants: Constants,
 ) -> u8
-    ensures { result ≡ 0 → HasImportedText text.now importing.entry.out (O.done outside.old) (O.done outside.new) }
+    ensures { result ≡ 0 → (included : List (List ℕ)) × HasImportedSource (O.files outside.old) included text.now
+        importing.entry.out (O.done outside.old) (O.done outside.new) }
 {
-    match is_over_header(alloc, outside, importing, text) {
-        Ok(true) => refuse_mistake(outside, out_over_configuration(alloc)),
-        Ok(false) => import_text(alloc, outside, importing, text, constants),
+    match included_files(alloc, importing.cfg, text) {
+        Ok(included) => {
+            let source = Source {
+                text,
+                included: &included,
+            };
+            import_source(alloc, outside, importing.out, source, constants)
+        }
         Err(error) => end(outside, &Failure::Memory(error)),
     }
 }

@@ -10,8 +10,10 @@
 
 mod answering;
 mod asking;
+mod commands;
 mod differing;
 mod expecting;
+mod export_form;
 mod exporting;
 mod form;
 mod import_form;
@@ -19,7 +21,6 @@ mod importing;
 mod inputs;
 mod mistakes;
 mod numbers;
-mod obeying;
 mod parsing;
 mod refusing;
 mod running;

@@ -36,7 +36,7 @@ fn without_tip(alloc: Global, message: &str) -> Result<Option<String>, AllocErro
         return Ok(None);
     };
     match rest.split_once("\n\n") {
-        Some((_, behind)) => Ok(Some(format!(in alloc; "{front}{behind}")?)),
+        Some((_, rest)) => Ok(Some(format!(in alloc; "{front}{rest}")?)),
         None => Ok(None),
     }
 }
@@ -71,11 +71,11 @@ fn with_either(alloc: Global, message: &str) -> Result<Option<String>, AllocErro
     let Some((front, rest)) = message.split_once("  --c <DIR>\n  --toppers <DIR>\n") else {
         return Ok(None);
     };
-    let Some((usage, behind)) = rest.split_once("--c <DIR> --toppers <DIR>") else {
+    let Some((usage, end)) = rest.split_once("--c <DIR> --toppers <DIR>") else {
         return Ok(None);
     };
     let text = format!(in alloc;
-        "{front}  --c <DIR> or --toppers <DIR>\n{usage}<--c <DIR>|--toppers <DIR>>{behind}"
+        "{front}  --c <DIR> or --toppers <DIR>\n{usage}<--c <DIR>|--toppers <DIR>>{end}"
     )?;
     Ok(Some(text))
 }
@@ -86,8 +86,8 @@ fn with_tip(alloc: Global, message: &str) -> Result<Option<String>, AllocError> 
         return without_tip(alloc, message);
     }
     for (usage, tip) in TIPS {
-        if let Some((front, behind)) = message.split_once(usage) {
-            return Ok(Some(format!(in alloc; "{front}{tip}{usage}{behind}")?));
+        if let Some((front, rest)) = message.split_once(usage) {
+            return Ok(Some(format!(in alloc; "{front}{tip}{usage}{rest}")?));
         }
     }
     Ok(None)

@@ -1,11 +1,13 @@
-//! A run of the program, from the words of its command line to its status.
+//! A run of the program, from the words of its command line to its status. `run` parses the words; `run_parsed` refuses
+//! an option that does nothing; `run_with_settings` and `run_added` add the words of settings; `run_joined` parses them
+//! together; `carry_out_with_settings` refuses to replace the file of settings; `carry_out` reads the command.
 ghost use Rattle.std.specs.Prelude.{◌≡◌, ◌⊎◌, IfOk, IfSome, List, OnOk, map, string_bytes};
 ghost use Rattle.clap.specs.Words.{Text, subcommand_rows_of};
 ghost use Rattle.fmp_looking.specs.TestDeeds.{IsDone};
-ghost use Rattle.fmp_view.specs.Ends.{Ends, IsOfSettings, Obeys, Shows, Tells};
+ghost use Rattle.fmp_view.specs.Ends.{Ends, IsOfSettings, RunsCommand, Shows, Tells};
 ghost use Rattle.fmp_view.specs.Form.{IsEntered};
 
-use crate::obeying::carry_out;
+use crate::commands::carry_out;
 use crate::parsing::parsed;
 use crate::refusing::refuse_form;
 use crate::settings::{Added, added_to, option_over_settings};
@@ -40,7 +42,7 @@ fn tell_added<O: Outside>(alloc: Global, outside: &mut O, added: &Added) -> Resu
 
 /// Does what the words of a command line ask for, unless a file that it writes is that of the settings that were read,
 /// and gives the status.
-fn carry_out_beside<O: Outside, R: Input + Files + Clock + Threads + Sync>(
+fn carry_out_with_settings<O: Outside, R: Input + Files + Clock + Threads + Sync>(
     alloc: Global,
     outside: &mut O,
     rt: &R,
@@ -50,7 +52,7 @@ fn carry_out_beside<O: Outside, R: Input + Files + Clock + Threads + Sync>(
 where
     R::Reader: IsTerminal,
     ensures { (typed : List Text) → IfSome (subcommand_rows_of words.now) (IsEntered typed) → IsDone result →
-        Obeys (O.files outside.old) typed (O.done outside.old) (O.done outside.new) result }
+        RunsCommand (O.files outside.old) typed (O.done outside.old) (O.done outside.new) result }
 {
     match option_over_settings(outside, words, settings) {
         Some((command, option)) => {
@@ -72,10 +74,11 @@ fn run_joined<O: Outside, R: Input + Files + Clock + Threads + Sync>(
 where
     R::Reader: IsTerminal,
     ensures { IsDone result → Shows (map string_bytes words.now) (O.done outside.old) (O.done outside.new)
-        ⊎ Obeys (O.files outside.old) (map string_bytes words.now) (O.done outside.old) (O.done outside.new) result }
+        ⊎ RunsCommand (O.files outside.old) (map string_bytes words.now) (O.done outside.old) (O.done outside.new)
+        result }
 {
     match parsed(alloc, words) {
-        Ok(parsed) => carry_out_beside(alloc, outside, rt, &parsed, settings),
+        Ok(parsed) => carry_out_with_settings(alloc, outside, rt, &parsed, settings),
         Err(error) => refuse_form(alloc, outside, words, &error),
     }
 }

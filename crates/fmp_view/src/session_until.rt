@@ -1,9 +1,10 @@
 //! A session that goes on until a deed happens.
-ghost use Rattle.std.specs.Prelude.{IfOk, OnOk};
+ghost use Rattle.std.specs.Prelude.{◌∷◌, [], IfOk, OnOk};
 ghost use Rattle.fmp_session.specs.Sessions.{IsSession};
+ghost use Rattle.fmp_session.specs.Taking.{HasTaken};
 ghost use Rattle.fmp_view.specs.Stepped.{GoesOn, IfTold, Leaves};
 
-use crate::answering::{Answer, Stepping, append_told, take_event};
+use crate::answering::{Answer, Stepping, append_taken, append_told, take_event};
 use crate::session_files::refused;
 use fmp_arguments::{EVENTS_MAX, flaw_words};
 use fmp_base::Event;
@@ -11,15 +12,14 @@ use fmp_expect::{Checker, ExpectFault, ExpectationFlaw, Expected, Expects, read_
 use fmp_kernel::{Body, Kernel};
 use fmp_monitors::Sentence;
 use fmp_session::{Session, TakenEvent};
-use fmp_warnings::Form;
 use std::alloc::{AllocError, Global};
 
 /// What is said where nothing goes on.
-const QUIET: &[u8] = b"quiet: no processor goes on, and the clock changes nothing\n";
+const QUIET: &str = "quiet: no processor goes on, and the clock changes nothing\n";
 
 /// What is said where nothing goes on before an interrupt comes.
-const QUIET_UNTIL_INTERRUPT: &[u8] =
-    b"quiet: no processor goes on, and the clock changes nothing; an interrupt may still come\n";
+const QUIET_UNTIL_INTERRUPT: &str =
+    "quiet: no processor goes on, and the clock changes nothing; an interrupt may still come\n";
 
 /// Why a line fails that names no deed.
 const WANTED: &str =
@@ -105,6 +105,25 @@ fn is_due(session: &Session<'_>) -> bool {
     kernel.tables().has_started_cyclic() || has_limit(kernel)
 }
 
+/// Takes an event, and appends what is told of it unless it does nothing.
+fn take_quietly(
+    alloc: Global,
+    session: &mut Session<'_>,
+    stepping: Stepping<'_>,
+    e: Event,
+    out: &mut Vec<u8>,
+) -> Result<TakenEvent, AllocError>
+    requires { IsSession session.old }
+    ensures session { IsSession session.new }
+    ensures takes { OnOk result (HasTaken session.old (e ∷ []) session.new) }
+{
+    let told = take_event(session, stepping, e)?;
+    if !matches!(told.taken, TakenEvent::Nothing) {
+        append_taken(alloc, session, stepping.form, told, out)?;
+    }
+    Ok(told.taken)
+}
+
 /// Takes the next event that does something, and appends what is told of it: a run of a processor, in turn from the one
 /// at this place on; else a tick, if it can change something.
 #[tactic(auto, using(crate::proofs::SessionLemmas::goes_none, crate::proofs::SessionLemmas::goes_more))]
@@ -122,7 +141,7 @@ fn take_next(
     let processors = session.image().system().processors.max(1);
     for place in 0..processors {
         let e = Event::Run(turn.saturating_add(place) % processors + 1);
-        match take_event(alloc, session, stepping, e, false, out)? {
+        match take_quietly(alloc, session, stepping, e, out)? {
             TakenEvent::Nothing => {}
             taken => return Ok(Some((e, taken))),
         }
@@ -130,7 +149,7 @@ fn take_next(
     if !is_due(session) {
         return Ok(None);
     }
-    let taken = take_event(alloc, session, stepping, Event::Tick, false, out)?;
+    let taken = take_quietly(alloc, session, stepping, Event::Tick, out)?;
     Ok(Some((Event::Tick, taken)))
 }
 
@@ -167,7 +186,7 @@ fn unhappened_text(alloc: Global, awaited: Awaited<'_>) -> Result<String, AllocE
 }
 
 /// What is said where nothing goes on in a session.
-fn quiet_text(session: &Session<'_>) -> &'static [u8] {
+fn quiet_text(session: &Session<'_>) -> &'static str {
     if session.image().system().interrupts.is_empty() {
         QUIET
     } else {
@@ -203,22 +222,17 @@ fn go_on(
     Ok(Stop::Most)
 }
 
-/// Appends why a session goes on no more, unless the deed has happened or the session is full.
-fn append_stop(
+/// Why a session goes on no more; nothing where the deed has happened or the session is full.
+fn stop_text(
     alloc: Global,
     session: &Session<'_>,
-    form: Form,
     awaited: Awaited<'_>,
     stop: Stop,
-    out: &mut Vec<u8>,
-) -> Result<(), AllocError> {
+) -> Result<String, AllocError> {
     match stop {
-        Stop::Done => Ok(()),
-        Stop::Quiet => append_told(alloc, form, quiet_text(session), out),
-        Stop::Most => {
-            let text = unhappened_text(alloc, awaited)?;
-            append_told(alloc, form, text.as_bytes(), out)
-        }
+        Stop::Done => Ok(String::new(alloc)),
+        Stop::Quiet => String::from_str(alloc, quiet_text(session)),
+        Stop::Most => unhappened_text(alloc, awaited),
     }
 }
 
@@ -244,7 +258,10 @@ fn told_until(
         awaited.most,
         &mut out,
     )?;
-    append_stop(alloc, session, stepping.form, awaited, stop, &mut out)?;
+    let text = stop_text(alloc, session, awaited, stop)?;
+    if !text.is_empty() {
+        append_told(alloc, stepping.form, text.as_bytes(), &mut out)?;
+    }
     Ok(out)
 }
 

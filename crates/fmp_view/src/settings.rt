@@ -76,6 +76,11 @@ impl From<Failure> for SettingsExit {
 }
 
 impl fmt::Display for SettingsExit {
+    ghost use Rattle.std.specs.Prelude.{Some};
+    ghost use Rattle.fmp_view.specs.Settings.{exit_message};
+
+    ghost output = { λ exit. Some (exit_message exit) };
+
     fn fmt<W: fmt::Write>(&self, f: &mut fmt::Formatter<W>) -> fmt::Result {
         match self {
             SettingsExit::Refused(text) => write!(f, "{text}"),
@@ -192,14 +197,22 @@ fn words_in<O: Outside>(
     }
 }
 
-/// What the settings beside a system add for the options of these names; nothing where there are no settings.
+/// What a command wants of settings.
+#[derive(Clone, Copy)]
+struct WantedSettings<'a> {
+    /// The options that settings may give.
+    names: &'a [&'static str],
+    /// Whether the line that tells the added words is said.
+    is_said: bool,
+}
+
+/// What the settings beside a system add for the options that are wanted; nothing where there are no settings.
 fn added_beside<O: Outside, R: Files>(
     alloc: Global,
     outside: &O,
     rt: &R,
     system: &str,
-    names: &[&str],
-    is_said: bool,
+    wanted: WantedSettings<'_>,
 ) -> Result<Option<Added>, SettingsExit>
     ensures { IfOk result (λ added. IfSome added (IsOfSettings (O.files outside.now))) }
 {
@@ -208,13 +221,13 @@ fn added_beside<O: Outside, R: Files>(
     if fs::metadata(rt, file.as_str()).is_err() {
         return Ok(None);
     }
-    let words = words_in(alloc, outside, folder, file.as_str(), names)?;
+    let words = words_in(alloc, outside, folder, file.as_str(), wanted.names)?;
     let line = used_text(alloc, file.as_str(), &words)?;
     Ok(Some(Added {
         file,
         words,
         line,
-        is_said,
+        is_said: wanted.is_said,
     }))
 }
 
@@ -231,10 +244,12 @@ fn added_for<O: Outside, R: Files>(
     if flag_of(words, "no-settings") {
         return Ok(None);
     }
-    let is_said = taker.prints_steps || flag_of(words, "json");
     let names = given(alloc, taker, words)?;
-    let system = word_of(words, taker.system);
-    added_beside(alloc, outside, rt, system, &names, is_said)
+    let wanted = WantedSettings {
+        names: &names,
+        is_said: taker.prints_steps || flag_of(words, "json"),
+    };
+    added_beside(alloc, outside, rt, word_of(words, taker.system), wanted)
 }
 
 /// Whether the option of this name is given and names the file of settings.

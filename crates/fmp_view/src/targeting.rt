@@ -1,7 +1,10 @@
 //! The command `export --toppers`: the files of a system for TOPPERS/FMP, in a folder.
-ghost use Rattle.std.specs.Prelude.{◌≡◌, ◌∷◌, [], IfOk, OnOk};
+ghost use Rattle.std.specs.Prelude.{◌≡◌, ◌≢◌, ◌∷◌, [], IfOk, OnErr, OnOk};
 ghost use Rattle.fmp_files.specs.Deeds.{Does};
-ghost use Rattle.fmp_view.specs.Targets.{HasTargeted, HasTargetedFiles, HasTargetedTexts, IsTargetOf, target_files};
+ghost use Rattle.fmp_searching.specs.Deeds.{TellsOnly};
+ghost use Rattle.fmp_view.specs.Begun.{BeginsDeeds};
+ghost use Rattle.fmp_view.specs.Targets.{HasTargeted, HasTargetedFiles, HasTargetedTexts, IsTargetOf, Stops};
+ghost use Rattle.fmp_view.specs.Targets.{StopsFiles, StopsTarget, StopsTexts, target_files};
 
 use crate::exporting::{make_folder, overwrites_input, write_in};
 use crate::word_mistakes::files_over_input;
@@ -56,7 +59,9 @@ fn write_target<O: Outside>(
     folder: &str,
     exported: &ToppersFiles,
 ) -> Result<(), Failure>
-    ensures { OnOk result (Does (O.done outside.old) (target_files folder.now exported.now) (O.done outside.new)) }
+    ensures ok { OnOk result (Does (O.done outside.old) (target_files folder.now exported.now) (O.done outside.new)) }
+    ensures begun { OnErr result (BeginsDeeds (target_files folder.now exported.now) (O.done outside.old)
+        (O.done outside.new)) }
 {
     write_in(
         alloc,
@@ -77,7 +82,9 @@ fn make_target<O: Outside, R: Files>(
     folder: &str,
     exported: &ToppersFiles,
 ) -> Result<(), Failure>
-    ensures { OnOk result (Does (O.done outside.old) (target_files folder.now exported.now) (O.done outside.new)) }
+    ensures ok { OnOk result (Does (O.done outside.old) (target_files folder.now exported.now) (O.done outside.new)) }
+    ensures begun { OnErr result (BeginsDeeds (target_files folder.now exported.now) (O.done outside.old)
+        (O.done outside.new)) }
 {
     make_folder(alloc, rt, folder)?;
     write_target(alloc, outside, folder, exported)
@@ -91,7 +98,10 @@ fn give<O: Outside, R: Files>(
     folder: &str,
     exported: &ToppersFiles,
 ) -> u8
-    ensures { result ≡ 0 → Does (O.done outside.old) (target_files folder.now exported.now) (O.done outside.new) }
+    ensures given { result ≡ 0 → Does (O.done outside.old) (target_files folder.now exported.now)
+        (O.done outside.new) }
+    ensures stopped { result ≢ 0 → Stops (target_files folder.now exported.now) (O.done outside.old)
+        (O.done outside.new) }
 {
     match make_target(alloc, outside, rt, folder, exported) {
         Ok(()) => 0,
@@ -116,7 +126,10 @@ fn refused_of(
 }
 
 /// Says of each of these objects why it has no place in a target.
-fn say_objects<O: Outside>(outside: &mut O, names: &[Name], why: &str) {
+#[tactic(auto, using(fmp_searching::proofs::Doing::only_none))]
+fn say_objects<O: Outside>(outside: &mut O, names: &[Name], why: &str)
+    ensures { TellsOnly (O.done outside.old) (O.done outside.new) }
+{
     for name in names {
         let name = str::from_utf8(name.as_bytes()).unwrap_or("");
         outside.say(format_args!("{name}: {why}\n"));
@@ -124,12 +137,15 @@ fn say_objects<O: Outside>(outside: &mut O, names: &[Name], why: &str) {
 }
 
 /// Says which objects have no place in a target, with status 1.
+#[tactic(auto, using(crate::proofs::BegunDeeds::saying_tells, fmp_searching::proofs::Doing::only_then))]
 fn refuse_objects<O: Outside>(
     alloc: Global,
     outside: &mut O,
     target: Target,
     texts: Texts<'_>,
-) -> u8 {
+) -> u8
+    ensures { TellsOnly (O.done outside.old) (O.done outside.new) }
+{
     match refused_of(alloc, target, texts) {
         Ok(refused) => {
             say_objects(
@@ -145,13 +161,16 @@ fn refuse_objects<O: Outside>(
 }
 
 /// Says or prints why there are no files, and gives the status.
+#[tactic(auto, using(crate::proofs::BegunDeeds::saying_tells))]
 fn refuse_target<O: Outside>(
     alloc: Global,
     outside: &mut O,
     texts: Texts<'_>,
     targeting: Targeting<'_>,
     refusal: ToppersRefusal,
-) -> u8 {
+) -> u8
+    ensures { TellsOnly (O.done outside.old) (O.done outside.new) }
+{
     match refusal {
         ToppersRefusal::Name(_) | ToppersRefusal::Mailbox(_) => {
             refuse_objects(alloc, outside, targeting.target, texts)
@@ -164,6 +183,7 @@ fn refuse_target<O: Outside>(
 }
 
 /// Exports two texts for a target, or says why not, with status 1.
+#[tactic(auto, using(crate::proofs::BegunDeeds::saying_tells))]
 fn target_texts<O: Outside, R: Files>(
     alloc: Global,
     outside: &mut O,
@@ -171,7 +191,9 @@ fn target_texts<O: Outside, R: Files>(
     texts: Texts<'_>,
     targeting: Targeting<'_>,
 ) -> u8
-    ensures { result ≡ 0 → HasTargetedTexts targeting.entry.target texts.entry targeting.entry.folder.now
+    ensures exported { result ≡ 0 → HasTargetedTexts targeting.entry.target texts.entry targeting.entry.folder.now
+        (O.done outside.old) (O.done outside.new) }
+    ensures stopped { result ≢ 0 → StopsTexts targeting.entry.target texts.entry targeting.entry.folder.now
         (O.done outside.old) (O.done outside.new) }
 {
     match targeted(alloc, targeting.target, texts.cfg, texts.src) {
@@ -181,13 +203,16 @@ fn target_texts<O: Outside, R: Files>(
 }
 
 /// Exports the texts of two files for a target, or says why not, with status 1.
+#[tactic(auto, using(crate::proofs::BegunDeeds::saying_tells, crate::proofs::TargetLemmas::stops_files))]
 fn target_files_of<O: Outside, R: Files>(
     alloc: Global,
     outside: &mut O,
     rt: &R,
     targeting: Targeting<'_>,
 ) -> u8
-    ensures { result ≡ 0 → HasTargetedFiles (O.files outside.old) targeting.entry
+    ensures exported { result ≡ 0 → HasTargetedFiles (O.files outside.old) targeting.entry
+        (O.done outside.old) (O.done outside.new) }
+    ensures stopped { result ≢ 0 → StopsFiles (O.files outside.old) targeting.entry
         (O.done outside.old) (O.done outside.new) }
 {
     match read_both(alloc, outside, targeting.names.cfg, targeting.names.src) {
@@ -203,13 +228,16 @@ fn target_files_of<O: Outside, R: Files>(
 }
 
 /// Exports the texts of two files for a target to a folder that this runtime reaches, or says why not, with status 1.
+#[tactic(auto, using(crate::proofs::BegunDeeds::saying_tells))]
 pub fn run_target<O: Outside, R: Files>(
     alloc: Global,
     outside: &mut O,
     rt: &R,
     targeting: Targeting<'_>,
 ) -> u8
-    ensures { result ≡ 0 → HasTargeted (O.files outside.old) targeting.entry
+    ensures exported { result ≡ 0 → HasTargeted (O.files outside.old) targeting.entry
+        (O.done outside.old) (O.done outside.new) }
+    ensures stopped { result ≢ 0 → StopsTarget (O.files outside.old) targeting.entry
         (O.done outside.old) (O.done outside.new) }
 {
     match overwrites_input(alloc, outside, targeting.names, targeting.folder, FILES) {

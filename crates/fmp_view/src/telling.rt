@@ -2,6 +2,7 @@
 ghost use Rattle.std.specs.Prelude.{◌≡◌, ◌⊎◌, IfErr, IfOk, OnOk};
 ghost use Rattle.fmp_files.specs.Prints.{Prints};
 ghost use Rattle.fmp_looking.specs.TestDeeds.{IsDone, IsRefusal};
+ghost use Rattle.fmp_view.specs.Verdicts.{SaysExit};
 
 use fmp_base::Call;
 use fmp_drive::{DriveStop, NextRun};
@@ -83,7 +84,8 @@ pub fn printed<O: Outside>(alloc: Global, outside: &mut O, bytes: &[u8]) -> Resu
 /// Says why nothing is made, and gives the status that the program ends with.
 #[tactic(auto, using(fmp_looking::proofs::TestEnds::exit_refuses, fmp_looking::proofs::TestEnds::refusal_by))]
 pub fn end_look<O: Outside>(outside: &mut O, exit: &ViewExit) -> u8
-    ensures { IsRefusal result }
+    ensures status { IsRefusal result }
+    ensures said { SaysExit exit.now (O.done outside.old) (O.done outside.new) }
 {
     end(outside, exit)
 }
@@ -94,6 +96,7 @@ pub fn print_made<O: Outside>(alloc: Global, outside: &mut O, made: Result<Vec<u
     ensures printed { IfOk made (λ text. IsDone result → Prints (O.done outside.old) text.items (O.done outside.new)) }
     ensures status { (result ≡ 0) ⊎ IsRefusal result }
     ensures refused { IfErr made (λ _. IsRefusal result) }
+    ensures said { IfErr made (λ exit. SaysExit exit (O.done outside.old) (O.done outside.new)) }
 {
     match made {
         Ok(text) => match printed(alloc, outside, &text) {

@@ -36,26 +36,31 @@ fn refuse_texts<O: Outside>(
     }
 }
 
-/// Makes random runs of the system of two texts, of which the configuration describes this, or prints their first
-/// fault, with status 1.
+/// The two texts of a system, and the system that the configuration describes.
+#[derive(Clone, Copy)]
+struct DescribedTexts<'a> {
+    texts: Texts<'a>,
+    configured: &'a System,
+}
+
+/// Makes random runs of the system of two texts, or prints their first fault, with status 1.
 #[tactic(auto, using(fmp_looking::proofs::TestEnds::not_done))]
 fn test_system<O: Outside, R: Threads + Sync>(
     alloc: Global,
     outside: &mut O,
     rt: &R,
-    configured: &System,
-    texts: Texts<'_>,
+    described: DescribedTexts<'_>,
     testing: &Testing<'_>,
 ) -> u8
-    requires { Describes texts.cfg.now configured.now }
-    ensures { IsDone result → EndsTestTexts (O.files outside.old) texts.entry.cfg.now texts.entry.src.now testing.now
-        (O.done outside.old) (O.done outside.new) result }
+    requires { Describes described.texts.cfg.now described.configured.now }
+    ensures { IsDone result → EndsTestTexts (O.files outside.old) described.entry.texts.cfg.now
+        described.entry.texts.src.now testing.now (O.done outside.old) (O.done outside.new) result }
 {
-    match build(alloc, texts.cfg, texts.src) {
+    match build(alloc, described.texts.cfg, described.texts.src) {
         Ok(image) => {
             let built = BuiltSystem {
                 image: &image,
-                configured,
+                configured: described.configured,
             };
             let status = test_image(alloc, outside, rt, &built, testing);
             drop(image);
@@ -79,7 +84,11 @@ fn test_texts<O: Outside, R: Threads + Sync>(
 {
     match read_cfg(alloc, texts.cfg) {
         Ok(configured) => {
-            let status = test_system(alloc, outside, rt, &configured, texts, testing);
+            let described = DescribedTexts {
+                texts,
+                configured: &configured,
+            };
+            let status = test_system(alloc, outside, rt, described, testing);
             drop(configured);
             status
         }

@@ -1,7 +1,6 @@
 //! What is wrong with words that have the form of a command.
-use crate::form::{
-    expect_command, export_command, forms, program, run_command, timeline_command, waves_command,
-};
+use crate::export_form::export_command;
+use crate::form::{expect_command, forms, program, run_command, timeline_command, waves_command};
 use crate::import_form::import_command;
 use crate::unused_options::UnusedOption;
 use clap::Error;

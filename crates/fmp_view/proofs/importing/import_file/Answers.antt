@@ -2,8 +2,10 @@ use Rattle.fmp_view.proofs.importing.import_file.Goals as goal
 
 pub returns-in-Ok : goal.returns-in-Ok
 returns-in-Ok g c = λ zero.
+    let read = c.import_read.ensures zero in
     record {
       text = c.in-Ok.text.items;
       is_text = c.in-Ok.ensures.bytes;
-      has = rw c.deref.ensures.value at (c.import_read.ensures zero);
+      included = read.0;
+      has = rw c.deref.ensures.value at read.1;
     }

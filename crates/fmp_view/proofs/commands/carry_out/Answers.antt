@@ -1,21 +1,21 @@
 use Rattle.fmp_looking.proofs.TestEnds.{mistake_refuses, not_done}
-use Rattle.fmp_view.proofs.obeying.carry_out.Goals as goal
+use Rattle.fmp_view.proofs.commands.carry_out.Goals as goal
 
 pub returns-in-Some-clause-explore : goal.returns-in-Some-clause-explore
 returns-in-Some-clause-explore g c = λ rows is.
-    c.obey.ensures.explore rows (rw c.in-Some.is at c.command.ensures.explore rows is)
+    c.run_command.ensures.explore rows (rw c.in-Some.is at c.command.ensures.explore rows is)
 
 pub returns-in-Some-clause-diff : goal.returns-in-Some-clause-diff
 returns-in-Some-clause-diff g c = λ rows is.
-    c.obey.ensures.diff rows (rw c.in-Some.is at c.command.ensures.diff rows is)
+    c.run_command.ensures.diff rows (rw c.in-Some.is at c.command.ensures.diff rows is)
 
 pub returns-in-Some-clause-expect : goal.returns-in-Some-clause-expect
 returns-in-Some-clause-expect g c = λ rows is.
-    c.obey.ensures.expect rows (rw c.in-Some.is at c.command.ensures.expect rows is)
+    c.run_command.ensures.expect rows (rw c.in-Some.is at c.command.ensures.expect rows is)
 
 pub returns-in-Some-clause-tests : goal.returns-in-Some-clause-tests
 returns-in-Some-clause-tests g c = λ rows is.
-    c.obey.ensures.tests rows (rw c.in-Some.is at c.command.ensures.tests rows is)
+    c.run_command.ensures.tests rows (rw c.in-Some.is at c.command.ensures.tests rows is)
 
 pub returns-in-None-clause-explore : goal.returns-in-None-clause-explore
 returns-in-None-clause-explore g c = λ rows is done. absurd (rw c.in-None.is at c.command.ensures.explore rows is)
@@ -31,14 +31,14 @@ returns-in-None-clause-tests g c = λ rows is done. absurd (rw c.in-None.is at c
 
 pub returns-in-Some-clause-why : goal.returns-in-Some-clause-why
 returns-in-Some-clause-why g c = λ rows is.
-    c.obey.ensures.why rows (rw c.in-Some.is at c.command.ensures.why rows is)
+    c.run_command.ensures.why rows (rw c.in-Some.is at c.command.ensures.why rows is)
 
 pub returns-in-None-clause-why : goal.returns-in-None-clause-why
 returns-in-None-clause-why g c = λ rows is done. absurd (rw c.in-None.is at c.command.ensures.why rows is)
 
 pub returns-in-Some-clause-explores : goal.returns-in-Some-clause-explores
 returns-in-Some-clause-explores g c = λ rows is.
-    c.obey.ensures.explores rows (rw c.in-Some.is at c.command.ensures.explore rows is)
+    c.run_command.ensures.explores rows (rw c.in-Some.is at c.command.ensures.explore rows is)
 
 pub returns-in-None-clause-explores : goal.returns-in-None-clause-explores
 returns-in-None-clause-explores g c = λ rows is. absurd (rw c.in-None.is at c.command.ensures.explore rows is)

@@ -1,5 +1,5 @@
 use Rattle.fmp_view.proofs.MadeEnds.{ends_explained}
-use Rattle.fmp_view.proofs.obeying.print_why.Goals as goal
+use Rattle.fmp_view.proofs.commands.print_why.Goals as goal
 
 pub returns : goal.returns
 returns g c =

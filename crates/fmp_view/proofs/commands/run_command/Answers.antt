@@ -1,7 +1,7 @@
 use Rattle.std.proofs.Common.{sym, ◌∙◌}
 use Rattle.fmp_view.proofs.CommandLemmas.{ends_look, no_look}
 use Rattle.fmp_view.specs.declared.asking.Asked.TheVariants as look
-use Rattle.fmp_view.proofs.obeying.obey.Goals as goal
+use Rattle.fmp_view.proofs.commands.run_command.Goals as goal
 
 pub returns-in-Explore-clause-explore : goal.returns-in-Explore-clause-explore
 returns-in-Explore-clause-explore g c = λ rows asks zero.
@@ -20,7 +20,7 @@ returns-in-Look-clause-diff g c = λ rows asks done.
     record {
       runs = asks.0;
       asked = asks.2;
-      ends = ends_look _ c.in-Look.asked (look.Diff asks.0) _ _ _ same (c.look_at.ensures done);
+      ends = ends_look _ c.in-Look.asked (look.Diff asks.0) _ _ _ same (c.run_look.ensures done);
     }
 
 pub returns-in-Look-clause-why : goal.returns-in-Look-clause-why
@@ -32,7 +32,7 @@ returns-in-Look-clause-why g c = λ rows asks done.
       why = record { at = asks.1; form = asks.2 };
       number = asks.5;
       form = asks.6;
-      ends = ends_look _ c.in-Look.asked (look.Why asks.0 asks.1 asks.2) _ _ _ same (c.look_at.ensures done);
+      ends = ends_look _ c.in-Look.asked (look.Why asks.0 asks.1 asks.2) _ _ _ same (c.run_look.ensures done);
     }
 
 pub returns-in-Look-clause-expect : goal.returns-in-Look-clause-expect
@@ -43,7 +43,7 @@ returns-in-Look-clause-expect g c = λ rows asks done.
       is_run = asks.3;
       expecting = asks.1;
       asked = asks.4;
-      ends = ends_look _ c.in-Look.asked (look.Expect asks.0 asks.1) _ _ _ same (c.look_at.ensures done);
+      ends = ends_look _ c.in-Look.asked (look.Expect asks.0 asks.1) _ _ _ same (c.run_look.ensures done);
     }
 
 pub returns-in-Look-clause-tests : goal.returns-in-Look-clause-tests
@@ -52,7 +52,7 @@ returns-in-Look-clause-tests g c = λ rows asks done.
     record {
       testing = asks.0;
       asked = asks.2;
-      ends = ends_look _ c.in-Look.asked (look.Test asks.0) _ _ _ same (c.look_at.ensures done);
+      ends = ends_look _ c.in-Look.asked (look.Test asks.0) _ _ _ same (c.run_look.ensures done);
     }
 
 pub returns-in-Explore-clause-diff : goal.returns-in-Explore-clause-diff

@@ -1,4 +1,5 @@
-//! What the commands do.
+//! What the commands do: `carry_out` reads the command from parsed words, `run_command` runs it, and `run_look` runs
+//! each but `explore`.
 ghost use Rattle.std.specs.Prelude.{◌≡◌, IsSome, List, Some, codes};
 ghost use Rattle.clap.specs.Words.{Row, subcommand_rows_of};
 ghost use Rattle.fmp_searching.specs.Claimed.{HoldsOfWords};
@@ -300,8 +301,8 @@ fn run_server<O: Outside, R: Input>(alloc: Global, outside: &mut O, rt: &R) -> u
     serve(alloc, outside, &mut source)
 }
 
-/// Looks at a system or at a run, and gives the status.
-fn look_at<O: Outside, R: Input + Files + Threads + Sync>(
+/// Runs a command other than `explore`, and gives the status.
+fn run_look<O: Outside, R: Input + Files + Threads + Sync>(
     alloc: Global,
     outside: &mut O,
     rt: &R,
@@ -334,8 +335,8 @@ where
     }
 }
 
-/// Does what a command asks for, and gives the status.
-fn obey<O: Outside, R: Input + Files + Clock + Threads + Sync>(
+/// Runs a command, and gives the status.
+fn run_command<O: Outside, R: Input + Files + Clock + Threads + Sync>(
     alloc: Global,
     outside: &mut O,
     rt: &R,
@@ -358,7 +359,7 @@ where
 {
     match cmd {
         Cmd::Explore(exploring) => run_explore(alloc, outside, rt, &exploring),
-        Cmd::Look(asked) => look_at(alloc, outside, rt, asked),
+        Cmd::Look(asked) => run_look(alloc, outside, rt, asked),
     }
 }
 
@@ -386,7 +387,7 @@ where
     ensures entered { IsDone result → IsSome (subcommand_rows_of words.now) }
 {
     match command(words) {
-        Some(cmd) => obey(alloc, outside, rt, cmd),
+        Some(cmd) => run_command(alloc, outside, rt, cmd),
         None => refuse_mistake(outside, no_code(alloc, "")),
     }
 }
