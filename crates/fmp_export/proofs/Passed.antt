@@ -1,4 +1,4 @@
--- The arguments before the out place of a call, and those behind it.
+-- The arguments before the out place of a call, and those after it.
 use Rattle.std.proofs.Common.{◌≡◌, ◌∙◌, ap, sym, ℕ, List, length, map, min, take, drop}
 use Rattle.std.proofs.lemmas.List.{take-map, take_min, drop-map}
 use Rattle.fmp_export.specs.declared.pieces.Piece.{Piece}

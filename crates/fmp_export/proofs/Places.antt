@@ -3,7 +3,7 @@ use Rattle.std.proofs.Common.{◌≡◌, ◌∙◌, ◌+◌, ◌++◌, ap, sym, 
 use Rattle.std.proofs.lemmas.Option.{get_or_from_slice_get, slice_get_within}
 use Rattle.fmp_scopes.proofs.Loops.{drop-step}
 
--- the token at a place, and those behind it
+-- the token at a place, and those after it
 pub held : {X : Type 0} (ts : List X) (i : ℕ) (t : X) → slice_get ts i ≡ Some t → drop i ts ≡ t ∷ drop (i + 1) ts
 held ts i t e = drop-step ts i t (slice_get_within ts i t e) (sym (get_or_from_slice_get ts i t t e))
 

@@ -7,8 +7,8 @@ use Rattle.fmp_tasklang.specs.declared.trees.Length.{Length}
 use Rattle.fmp_tasklang.specs.Trees.{BodyTree}
 use Rattle.fmp_export.specs.declared.source.Landmark.TheVariants as landmark
 use Rattle.fmp_export.specs.Pieces.{number_text}
-use Rattle.fmp_export.specs.Remarks.{c_above, c_behind, c_directive, other_lines, own_lines}
-use Rattle.fmp_export.specs.Sources.{SourceText, behind, gaps, no_source}
+use Rattle.fmp_export.specs.Remarks.{c_above, c_after, c_directive, other_lines, own_lines}
+use Rattle.fmp_export.specs.Sources.{SourceText, place_after, gaps, no_source}
 use Rattle.fmp_export.specs.Statements.{block_end, c_block}
 use Rattle.fmp_export.specs.Words.{c_function, c_name, tab}
 
@@ -22,27 +22,27 @@ c_variable s d = codes "    int32_t " ++ (c_name d.name.name ++ c_initial s d.le
 
 -- a declaration below the comments of a gap, with the comment of another after it
 unfoldable pub c_declared : SourceText → (before gap : List ℕ) → Declaration → List ℕ
-c_declared s before gap d = c_above tab before ++ (c_variable s d ++ (c_behind gap ++ codes "\n"))
+c_declared s before gap d = c_above tab before ++ (c_variable s d ++ (c_after gap ++ codes "\n"))
 
 -- The declarations of variables from a place on, and an empty line. What stands before the place is a gap whose first
 -- line is written already.
 abbrev pub c_variables : SourceText → (before : List ℕ) → (at : ℕ) → List Declaration → List ℕ
 c_variables s before at [] = codes "\n" ++ c_above tab before
 c_variables s before at (d ∷ ds) =
-    c_declared s before (gaps s at (behind landmark.Semicolon s at)) d
-    ++ c_variables s (gaps s at (behind landmark.Semicolon s at)) (behind landmark.Semicolon s at) ds
+    c_declared s before (gaps s at (place_after landmark.Semicolon s at)) d
+    ++ c_variables s (gaps s at (place_after landmark.Semicolon s at)) (place_after landmark.Semicolon s at) ds
 
 -- the place after the declarations
 abbrev pub variables_end : SourceText → (at : ℕ) → List Declaration → ℕ
 variables_end s at [] = at
-variables_end s at (d ∷ ds) = variables_end s (behind landmark.Semicolon s at) ds
+variables_end s at (d ∷ ds) = variables_end s (place_after landmark.Semicolon s at) ds
 
 -- the first lines of a body, after which its variables stand
 unfoldable pub c_heading : Name → (before : List ℕ) → List ℕ
 c_heading name before =
     codes "void "
     ++ (c_function name
-    ++ (codes "(intptr_t fmp_exinf)\n{" ++ (c_behind before ++ codes "\n    int32_t exinf = (int32_t)fmp_exinf;\n")))
+    ++ (codes "(intptr_t fmp_exinf)\n{" ++ (c_after before ++ codes "\n    int32_t exinf = (int32_t)fmp_exinf;\n")))
 
 -- what a body has from a place on, up to its `}`
 unfoldable pub c_inside : SourceText → (before : List ℕ) → (at : ℕ) → BodyTree → List ℕ
@@ -58,25 +58,25 @@ inside_end s at b = block_end s (variables_end s at b.variables) b.statements
 abbrev pub c_body : SourceText → BodyTree → List ℕ
 c_body s b =
     c_directive s b.at
-    ++ c_inside s (gaps s b.at (behind landmark.LeftBrace s b.at)) (behind landmark.LeftBrace s b.at) b
+    ++ c_inside s (gaps s b.at (place_after landmark.LeftBrace s b.at)) (place_after landmark.LeftBrace s b.at) b
 
 abbrev pub body_end : SourceText → BodyTree → ℕ
-body_end s b = inside_end s (behind landmark.LeftBrace s b.at) b
+body_end s b = inside_end s (place_after landmark.LeftBrace s b.at) b
 
 -- what stands after a body
-abbrev pub gap_behind : SourceText → BodyTree → List ℕ
-gap_behind s b = gaps s (body_end s b) (behind landmark.RightBrace s (body_end s b))
+abbrev pub gap_after : SourceText → BodyTree → List ℕ
+gap_after s b = gaps s (body_end s b) (place_after landmark.RightBrace s (body_end s b))
 
 -- a body below the comments of these lines
 unfoldable pub c_commented : SourceText → (above : List ℕ) → BodyTree → List ℕ
 c_commented s above b =
-    codes "\n" ++ (own_lines [] [] above ++ (c_body s b ++ (c_behind (gap_behind s b) ++ codes "\n")))
+    codes "\n" ++ (own_lines [] [] above ++ (c_body s b ++ (c_after (gap_after s b) ++ codes "\n")))
 
 -- bodies, and the comments that stand above, between and below them
 abbrev pub c_commented_bodies : SourceText → (above : List ℕ) → List BodyTree → List ℕ
 c_commented_bodies s above [] = own_lines [] [] above
 c_commented_bodies s above (b ∷ bs) =
-    c_commented s above b ++ c_commented_bodies s (other_lines (gap_behind s b)) bs
+    c_commented s above b ++ c_commented_bodies s (other_lines (gap_after s b)) bs
 
 -- bodies without their text: numbers are written by their values, and there are no comments
 abbrev pub c_bodies : List BodyTree → List ℕ

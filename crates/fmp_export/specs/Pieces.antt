@@ -13,7 +13,7 @@ use Rattle.fmp_export.specs.declared.pieces.ExpressionShape.{ExpressionShape}
 use Rattle.fmp_export.specs.declared.pieces.ExpressionShape.TheVariants as shape
 use Rattle.fmp_export.specs.declared.pieces.Piece as declared
 use Rattle.fmp_export.specs.declared.source.Landmark.TheVariants as landmark
-use Rattle.fmp_export.specs.Sources.{SourceText, behind, landmark_in}
+use Rattle.fmp_export.specs.Sources.{SourceText, place_after, landmark_in}
 
 pub record PieceText : Type 0 where
   pub text : List ℕ
@@ -71,7 +71,7 @@ number_piece s at k =
       text = number_text s at k;
       risk = risk.Safe;
       shape = number_shape k;
-      next = behind landmark.Number s at;
+      next = place_after landmark.Number s at;
     }
 
 -- a variable or an object of this name in C

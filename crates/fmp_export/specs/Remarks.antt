@@ -5,7 +5,7 @@ use Rattle.std.specs.Char.{is_ascii_whitespace}
 use Rattle.std.specs.List.{prefix_len, suffix_len, starts_with, ends_with}
 use Rattle.fmp_lex.specs.declared.token.Token.{Token}
 use Rattle.fmp_export.specs.declared.source.Landmark.{Landmark}
-use Rattle.fmp_export.specs.Sources.{SourceText, behind, gaps}
+use Rattle.fmp_export.specs.Sources.{SourceText, place_after, gaps}
 
 -- a byte that no editor shows, but for tabs
 abbrev pub is_hidden : ℕ → Bool
@@ -81,9 +81,9 @@ abbrev pub comment : List ℕ → List ℕ
 comment line = closed (line_comments [] [] line)
 
 -- after the code of its line, or in a line of its own
-abbrev pub behind_code : (remark : List ℕ) → List ℕ
-behind_code [] = []
-behind_code (b ∷ bs) = codes " " ++ (b ∷ bs)
+abbrev pub after_code : (remark : List ℕ) → List ℕ
+after_code [] = []
+after_code (b ∷ bs) = codes " " ++ (b ∷ bs)
 
 abbrev pub own_line : (margin remark : List ℕ) → List ℕ
 own_line margin [] = []
@@ -106,18 +106,18 @@ own_lines margin line (b ∷ bs) =
     else own_lines margin (line ++ shown b ∷ []) bs
 
 -- the comments of a gap: that of its first line after the code, the others in lines of their own
-abbrev pub c_behind : (gap : List ℕ) → List ℕ
-c_behind gap = behind_code (comment (first_line [] gap))
+abbrev pub c_after : (gap : List ℕ) → List ℕ
+c_after gap = after_code (comment (first_line [] gap))
 
 abbrev pub c_above : (margin gap : List ℕ) → List ℕ
 c_above margin gap = own_lines margin [] (other_lines gap)
 
 unfoldable pub c_line_end : (margin gap : List ℕ) → List ℕ
-c_line_end margin gap = c_behind gap ++ (codes "\n" ++ c_above margin gap)
+c_line_end margin gap = c_after gap ++ (codes "\n" ++ c_above margin gap)
 
 -- the end of a line of C for the tokens from a place up to a landmark: all comments that stand after one of them
 abbrev pub c_finish : (margin : List ℕ) → Landmark → SourceText → (at : ℕ) → List ℕ
-c_finish margin l s at = c_line_end margin (gaps s at (behind l s at))
+c_finish margin l s at = c_line_end margin (gaps s at (place_after l s at))
 
 -- the next line of C is this one of the text
 unfoldable pub line_directive : (line : ℕ) → List ℕ

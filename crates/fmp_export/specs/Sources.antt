@@ -35,13 +35,13 @@ is_landmark landmark.Else (kind.Keyword keyword.Else) = true
 is_landmark _ _ = false
 
 -- the place after the first landmark of these tokens, which begin at a place; after all of them if there is none
-abbrev pub behind_in : Landmark → (at : ℕ) → List Token → ℕ
-behind_in l at [] = at
-behind_in l at (t ∷ ts) = if is_landmark l t.kind then at + 1 else behind_in l (at + 1) ts
+abbrev pub place_after_in : Landmark → (at : ℕ) → List Token → ℕ
+place_after_in l at [] = at
+place_after_in l at (t ∷ ts) = if is_landmark l t.kind then at + 1 else place_after_in l (at + 1) ts
 
 -- the place after the first landmark from a place on
-unfoldable pub behind : Landmark → SourceText → (at : ℕ) → ℕ
-behind l s at = behind_in l at (drop at s.tokens)
+unfoldable pub place_after : Landmark → SourceText → (at : ℕ) → ℕ
+place_after l s at = place_after_in l at (drop at s.tokens)
 
 -- the first landmark of these tokens
 abbrev pub landmark_in : Landmark → List Token → Option Token

@@ -14,7 +14,7 @@ use Rattle.fmp_export.specs.declared.source.Landmark.TheVariants as landmark
 use Rattle.fmp_export.specs.Expressions.{c_expression, c_expressions}
 use Rattle.fmp_export.specs.Pieces.{PieceText, joint_risk, matters}
 use Rattle.fmp_export.specs.Remarks.{c_directive, c_finish}
-use Rattle.fmp_export.specs.Sources.{SourceText, behind, stands_at}
+use Rattle.fmp_export.specs.Sources.{SourceText, place_after, stands_at}
 use Rattle.fmp_export.specs.Words.{c_name, tab}
 
 -- the call of a function, or the macro that evaluates the index first
@@ -135,30 +135,32 @@ is_chain (next s (next t b)) = false
 
 -- the same, but for an `if` in braces of its own; its `else` stands after the `}` at this place
 abbrev pub goes_on : SourceText → (at : ℕ) → Block → Bool
-goes_on s at o = is_chain o && not (stands_at landmark.LeftBrace s (behind landmark.Else s at))
+goes_on s at o = is_chain o && not (stands_at landmark.LeftBrace s (place_after landmark.Else s at))
 
 -- where a block ends, given where its last statement does: after its `}`
 abbrev pub else_end : (chain : Bool) → (chained block : ℕ) → SourceText → ℕ
 else_end true chained block s = chained
-else_end false chained block s = behind landmark.RightBrace s block
+else_end false chained block s = place_after landmark.RightBrace s block
 
 -- where a choice ends whose `}` before the `else` stands at a place, given where its other block ends
 abbrev pub choice_end_by : (end : ℕ → ℕ) → SourceText → (at : ℕ) → Block → ℕ
-choice_end_by end s at o = else_end (goes_on s at o) (end at) (end (behind landmark.LeftBrace s at)) s
+choice_end_by end s at o = else_end (goes_on s at o) (end at) (end (place_after landmark.LeftBrace s at)) s
 
 -- the place after a statement, and after the statements of a block
 abbrev mutual
   pub statement_end : SourceText → (at : ℕ) → StatementTree → ℕ
-  statement_end s at (assign w e) = behind landmark.Semicolon s at
-  statement_end s at (assign_element w i e) = behind landmark.Semicolon s at
-  statement_end s at (service_call c) = behind landmark.Semicolon s at
-  statement_end s at (if_then e b) = behind landmark.RightBrace s (block_end s (behind landmark.LeftBrace s at) b)
+  statement_end s at (assign w e) = place_after landmark.Semicolon s at
+  statement_end s at (assign_element w i e) = place_after landmark.Semicolon s at
+  statement_end s at (service_call c) = place_after landmark.Semicolon s at
+  statement_end s at (if_then e b) =
+      place_after landmark.RightBrace s (block_end s (place_after landmark.LeftBrace s at) b)
   statement_end s at (if_else e b o) =
-      choice_end_by (λ i. block_end s i o) s (block_end s (behind landmark.LeftBrace s at) b) o
-  statement_end s at (while e b) = behind landmark.RightBrace s (block_end s (behind landmark.LeftBrace s at) b)
-  statement_end s at break = behind landmark.Semicolon s at
-  statement_end s at continue = behind landmark.Semicolon s at
-  statement_end s at return = behind landmark.Semicolon s at
+      choice_end_by (λ i. block_end s i o) s (block_end s (place_after landmark.LeftBrace s at) b) o
+  statement_end s at (while e b) =
+      place_after landmark.RightBrace s (block_end s (place_after landmark.LeftBrace s at) b)
+  statement_end s at break = place_after landmark.Semicolon s at
+  statement_end s at continue = place_after landmark.Semicolon s at
+  statement_end s at return = place_after landmark.Semicolon s at
 
   pub block_end : SourceText → (at : ℕ) → Block → ℕ
   block_end s at empty = at
@@ -183,7 +185,8 @@ c_else false chained head block = head ++ block
 abbrev pub c_choice_by : (chained block : ℕ → List ℕ) → SourceText → (margin : List ℕ) → (at : ℕ) → Block → List ℕ
 c_choice_by chained block s margin at o =
     c_else (goes_on s at o) (chained at) (c_else_head s margin at)
-    (c_closed s margin (block (behind landmark.LeftBrace s at)) (block_end s (behind landmark.LeftBrace s at) o))
+    (c_closed s margin (block (place_after landmark.LeftBrace s at))
+    (block_end s (place_after landmark.LeftBrace s at) o))
 
 -- a statement; the statements of a block, each after its margin; and the same, each after `else` in its line
 abbrev mutual
@@ -195,17 +198,17 @@ abbrev mutual
       c_call s margin at c ++ c_finish margin landmark.Semicolon s at
   c_statement s margin at (if_then e b) =
       c_head s margin (codes "if (") at e
-      ++ c_closed s margin (c_block s (margin ++ tab) (behind landmark.LeftBrace s at) b)
-      (block_end s (behind landmark.LeftBrace s at) b)
+      ++ c_closed s margin (c_block s (margin ++ tab) (place_after landmark.LeftBrace s at) b)
+      (block_end s (place_after landmark.LeftBrace s at) b)
   c_statement s margin at (if_else e b o) =
       c_head s margin (codes "if (") at e
-      ++ (c_block s (margin ++ tab) (behind landmark.LeftBrace s at) b
+      ++ (c_block s (margin ++ tab) (place_after landmark.LeftBrace s at) b
       ++ c_choice_by (λ i. c_chained s margin i o) (λ i. c_block s (margin ++ tab) i o) s margin
-      (block_end s (behind landmark.LeftBrace s at) b) o)
+      (block_end s (place_after landmark.LeftBrace s at) b) o)
   c_statement s margin at (while e b) =
       c_head s margin (codes "fmp_while (") at e
-      ++ c_closed s margin (c_block s (margin ++ tab) (behind landmark.LeftBrace s at) b)
-      (block_end s (behind landmark.LeftBrace s at) b)
+      ++ c_closed s margin (c_block s (margin ++ tab) (place_after landmark.LeftBrace s at) b)
+      (block_end s (place_after landmark.LeftBrace s at) b)
   c_statement s margin at break = c_jump s margin (codes "break;") at
   c_statement s margin at continue = c_jump s margin (codes "continue;") at
   c_statement s margin at return = c_jump s margin (codes "return;") at

@@ -3,14 +3,12 @@ ghost use Rattle.std.specs.Prelude.{◌≡◌, ◌++◌, map, IfOk, OnOk};
 ghost use Rattle.fmp_tasklang.specs.Views.{body_view};
 ghost use Rattle.fmp_export.specs.Bodies.{body_end, c_bodies, c_body, c_commented, c_commented_bodies, c_declared};
 ghost use Rattle.fmp_export.specs.Bodies.{c_heading, c_initial, c_inside, c_prototype, c_prototypes, c_row, c_rows};
-ghost use Rattle.fmp_export.specs.Bodies.{c_variable, c_variables, gap_behind, inside_end, variables_end};
+ghost use Rattle.fmp_export.specs.Bodies.{c_variable, c_variables, gap_after, inside_end, variables_end};
 ghost use Rattle.fmp_export.specs.Sources.{source_view};
 
 use crate::pieces::append_number;
-use crate::remarks::{
-    append_above, append_behind, append_directive, append_own_lines, other_lines,
-};
-use crate::source::{Landmark, LexedText, behind, gaps_between};
+use crate::remarks::{append_above, append_after, append_directive, append_own_lines, other_lines};
+use crate::source::{Landmark, LexedText, gaps_between, place_after};
 use crate::statements::append_block;
 use crate::text::append;
 use crate::words::{append_function, append_name};
@@ -64,7 +62,7 @@ fn append_declared(
 {
     append_above(source.alloc, b"    ", before, out)?;
     append_variable(source, variable, out)?;
-    append_behind(source.alloc, gap, out)?;
+    append_after(source.alloc, gap, out)?;
     append(b"\n", out)
 }
 
@@ -85,7 +83,7 @@ fn append_variables(
     let mut written = Vec::new(source.alloc);
     append(before, &mut written)?;
     for variable in variables {
-        let next = behind(Landmark::Semicolon, source, place);
+        let next = place_after(Landmark::Semicolon, source, place);
         let gap = gaps_between(source, place, next)?;
         append_declared(source, &written, &gap, variable, out)?;
         place = next;
@@ -109,7 +107,7 @@ fn append_heading(
     append(b"void ", out)?;
     append_function(name, out)?;
     append(b"(intptr_t fmp_exinf)\n{", out)?;
-    append_behind(alloc, before, out)?;
+    append_after(alloc, before, out)?;
     append(b"\n    int32_t exinf = (int32_t)fmp_exinf;\n", out)
 }
 
@@ -140,7 +138,7 @@ fn append_body(source: &LexedText<'_>, body: &Body, out: &mut Vec<u8>) -> Result
     ensures end { IfOk result (λ end. end ≡ body_end (source_view source.now) (body_view body.now)) }
 {
     let start = body.at as usize;
-    let at = behind(Landmark::LeftBrace, source, start);
+    let at = place_after(Landmark::LeftBrace, source, start);
     let before = gaps_between(source, start, at)?;
     append_directive(source, start, out)?;
     append_inside(source, &before, at, body, out)
@@ -156,13 +154,13 @@ fn append_commented(
 ) -> Result<Vec<u8>, AllocError>
     ensures text { OnOk result (out.new.items
         ≡ out.old.items ++ c_commented (source_view source.now) above.now (body_view body.now)) }
-    ensures gap { IfOk result (λ gap. gap.items ≡ gap_behind (source_view source.now) (body_view body.now)) }
+    ensures gap { IfOk result (λ gap. gap.items ≡ gap_after (source_view source.now) (body_view body.now)) }
 {
     append(b"\n", out)?;
     append_own_lines(source.alloc, b"", above, out)?;
     let end = append_body(source, body, out)?;
-    let gap = gaps_between(source, end, behind(Landmark::RightBrace, source, end))?;
-    append_behind(source.alloc, &gap, out)?;
+    let gap = gaps_between(source, end, place_after(Landmark::RightBrace, source, end))?;
+    append_after(source.alloc, &gap, out)?;
     append(b"\n", out)?;
     Ok(gap)
 }

@@ -133,7 +133,7 @@ fn append_before(
 
 /// Appends the arguments after the out place.
 #[tactic(auto, using(crate::proofs::Passed::dropped))]
-fn append_behind(
+fn append_after(
     ordered: bool,
     from: usize,
     pieces: &[Piece],
@@ -170,7 +170,7 @@ fn append_arguments(
         Some(word) => {
             append_before(ordered, place, pieces, out)?;
             append_out(place, word, out)?;
-            append_behind(ordered, place, pieces, out)
+            append_after(ordered, place, pieces, out)
         }
     }
 }

@@ -8,7 +8,7 @@ ghost use Rattle.fmp_export.specs.Pieces.{piece_view, operand, number_piece, nam
 ghost use Rattle.fmp_export.specs.Pieces.{binary_piece, both_piece, either_piece};
 ghost use Rattle.fmp_export.specs.Words.{c_name};
 
-use crate::source::{Landmark, LexedText, before, behind, from, landmark_from};
+use crate::source::{Landmark, LexedText, before, from, landmark_from, place_after};
 use crate::text::{append, append_signed};
 use crate::words::append_name;
 use fmp_base::{BinaryOperator, Name, UnaryOperator};
@@ -136,7 +136,7 @@ pub fn number(source: &LexedText<'_>, at: usize, number: i32) -> Result<Piece, A
         text,
         risk: Risk::Safe,
         shape: number_shape(number),
-        next: behind(Landmark::Number, source, at),
+        next: place_after(Landmark::Number, source, at),
     })
 }
 

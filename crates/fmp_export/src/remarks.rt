@@ -1,10 +1,10 @@
 //! The comments of a text in C, which are lines that begin with `//`, and its lines for a debugger.
 ghost use Rattle.std.specs.Prelude.{◌≡◌, ◌++◌, [], IfOk, OnOk};
 ghost use Rattle.fmp_export.specs.Remarks as spec;
-ghost use Rattle.fmp_export.specs.Remarks.{c_above, c_behind, c_directive, c_finish, c_line_end, own_line, own_lines};
-ghost use Rattle.fmp_export.specs.Sources.{behind, source_view};
+ghost use Rattle.fmp_export.specs.Remarks.{c_above, c_after, c_directive, c_finish, c_line_end, own_line, own_lines};
+ghost use Rattle.fmp_export.specs.Sources.{place_after, source_view};
 
-use crate::source::{Landmark, LexedText, before, behind, from, gaps_between};
+use crate::source::{Landmark, LexedText, before, from, gaps_between, place_after};
 use crate::text::{append, append_count};
 use std::alloc::{AllocError, Global};
 
@@ -222,8 +222,8 @@ pub fn append_own_lines(
 }
 
 /// Appends a comment after the code of its line, if there is one.
-fn append_behind_code(comment: &[u8], out: &mut Vec<u8>) -> Result<(), AllocError>
-    ensures { OnOk result (out.new.items ≡ out.old.items ++ spec.behind_code comment.now) }
+fn append_after_code(comment: &[u8], out: &mut Vec<u8>) -> Result<(), AllocError>
+    ensures { OnOk result (out.new.items ≡ out.old.items ++ spec.after_code comment.now) }
 {
     if comment.is_empty() {
         return Ok(());
@@ -233,12 +233,12 @@ fn append_behind_code(comment: &[u8], out: &mut Vec<u8>) -> Result<(), AllocErro
 }
 
 /// Appends the comment of the first line of a gap, after the code of its line.
-pub fn append_behind(alloc: Global, gap: &[u8], out: &mut Vec<u8>) -> Result<(), AllocError>
-    ensures { OnOk result (out.new.items ≡ out.old.items ++ c_behind gap.now) }
+pub fn append_after(alloc: Global, gap: &[u8], out: &mut Vec<u8>) -> Result<(), AllocError>
+    ensures { OnOk result (out.new.items ≡ out.old.items ++ c_after gap.now) }
 {
     let line = first_line(alloc, gap)?;
     let comment = comment(alloc, &line)?;
-    append_behind_code(&comment, out)
+    append_after_code(&comment, out)
 }
 
 /// Appends the comments of the other lines of a gap.
@@ -263,7 +263,7 @@ fn append_line_end(
 ) -> Result<(), AllocError>
     ensures { OnOk result (out.new.items ≡ out.old.items ++ c_line_end margin.now gap.now) }
 {
-    append_behind(alloc, gap, out)?;
+    append_after(alloc, gap, out)?;
     append(b"\n", out)?;
     append_above(alloc, margin, gap, out)
 }
@@ -278,9 +278,9 @@ pub fn finish(
 ) -> Result<usize, AllocError>
     ensures text { OnOk result (out.new.items
         ≡ out.old.items ++ c_finish margin.now landmark (source_view source.now) at) }
-    ensures next { IfOk result (λ next. next ≡ behind landmark (source_view source.now) at) }
+    ensures next { IfOk result (λ next. next ≡ place_after landmark (source_view source.now) at) }
 {
-    let next = behind(landmark, source, at);
+    let next = place_after(landmark, source, at);
     let gap = gaps_between(source, at, next)?;
     append_line_end(source.alloc, margin, &gap, out)?;
     Ok(next)

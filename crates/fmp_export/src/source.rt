@@ -57,12 +57,12 @@ fn token_at(tokens: &Tokens<'_>, at: usize) -> Option<Token>
     ensures { result ≡ slice_get tokens.now at }
 {
     let kind = tokens.kind(at)?;
-    let place = tokens.position(at)?;
+    let position = tokens.position(at)?;
     Some(Token {
         kind,
-        line: place.line,
-        start: place.start,
-        end: place.end,
+        line: position.line,
+        start: position.start,
+        end: position.end,
     })
 }
 
@@ -126,9 +126,9 @@ impl<'a> LexedText<'a> {
 }
 
 /// The place after the first landmark from a place on; after all tokens if there is none.
-#[tactic(auto, unfolding(crate::specs::Sources::behind))]
-pub fn behind(landmark: Landmark, source: &LexedText<'_>, at: usize) -> usize
-    ensures { result ≡ spec.behind landmark (source_view source.now) at }
+#[tactic(auto, unfolding(crate::specs::Sources::place_after))]
+pub fn place_after(landmark: Landmark, source: &LexedText<'_>, at: usize) -> usize
+    ensures { result ≡ spec.place_after landmark (source_view source.now) at }
 {
     let mut place = at;
     while place < source.tokens.len() {

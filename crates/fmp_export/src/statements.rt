@@ -4,7 +4,7 @@ ghost use Rattle.std.specs.Prelude.{◌≡◌, ◌++◌, IfOk, OnOk};
 ghost use Rattle.fmp_tasklang.specs.Views.{expression_view, statement_view, block_view};
 ghost use Rattle.fmp_export.specs.declared.source.Landmark.TheVariants as landmark;
 ghost use Rattle.fmp_export.specs.Pieces.{piece_view};
-ghost use Rattle.fmp_export.specs.Sources.{behind, source_view};
+ghost use Rattle.fmp_export.specs.Sources.{place_after, source_view};
 ghost use Rattle.fmp_export.specs.Statements as spec;
 ghost use Rattle.fmp_export.specs.Statements.{block_end, c_block, c_chained, c_choice, c_closed, c_statement, c_store};
 ghost use Rattle.fmp_export.specs.Statements.{choice_end, statement_end};
@@ -14,7 +14,7 @@ use crate::calls::append_call;
 use crate::expressions::expression;
 use crate::pieces::{Piece, matters};
 use crate::remarks::{append_directive, finish};
-use crate::source::{Landmark, LexedText, behind, stands_at};
+use crate::source::{Landmark, LexedText, place_after, stands_at};
 use crate::text::{append, inner_margin};
 use crate::words::append_name;
 use fmp_base::Name;
@@ -101,7 +101,7 @@ fn append_head(
 ) -> Result<usize, AllocError>
     ensures text { OnOk result (out.new.items ≡ out.old.items
         ++ spec.c_head (source_view source.now) margin.now word.now at (expression_view condition.now)) }
-    ensures next { IfOk result (λ next. next ≡ behind landmark.LeftBrace (source_view source.now) at) }
+    ensures next { IfOk result (λ next. next ≡ place_after landmark.LeftBrace (source_view source.now) at) }
 {
     let inner = inner_margin(source.alloc, margin)?;
     let piece = expression(source, at, condition)?;
@@ -120,7 +120,7 @@ fn append_close(
     out: &mut Vec<u8>,
 ) -> Result<usize, AllocError>
     ensures text { OnOk result (out.new.items ≡ out.old.items ++ spec.c_close (source_view source.now) margin.now at) }
-    ensures next { IfOk result (λ next. next ≡ behind landmark.RightBrace (source_view source.now) at) }
+    ensures next { IfOk result (λ next. next ≡ place_after landmark.RightBrace (source_view source.now) at) }
 {
     append(margin, out)?;
     append(b"}", out)?;
@@ -138,7 +138,7 @@ fn append_jump(
 ) -> Result<usize, AllocError>
     ensures text { OnOk result (out.new.items ≡ out.old.items
         ++ spec.c_jump (source_view source.now) margin.now word.now at) }
-    ensures next { IfOk result (λ next. next ≡ behind landmark.Semicolon (source_view source.now) at) }
+    ensures next { IfOk result (λ next. next ≡ place_after landmark.Semicolon (source_view source.now) at) }
 {
     append(word, out)?;
     finish(margin, Landmark::Semicolon, source, at, out)
@@ -154,7 +154,7 @@ fn append_else_head(
 ) -> Result<usize, AllocError>
     ensures text { OnOk result (out.new.items ≡ out.old.items
         ++ spec.c_else_head (source_view source.now) margin.now at) }
-    ensures next { IfOk result (λ next. next ≡ behind landmark.LeftBrace (source_view source.now) at) }
+    ensures next { IfOk result (λ next. next ≡ place_after landmark.LeftBrace (source_view source.now) at) }
 {
     let inner = inner_margin(source.alloc, margin)?;
     append(margin, out)?;
@@ -187,7 +187,7 @@ fn goes_on(source: &LexedText<'_>, at: usize, otherwise: &[Statement]) -> bool
         && !stands_at(
             Landmark::LeftBrace,
             source,
-            behind(Landmark::Else, source, at),
+            place_after(Landmark::Else, source, at),
         )
 }
 
@@ -300,7 +300,7 @@ fn append_closed(
     ensures text { OnOk result (out.new.items ≡ out.old.items ++ c_closed (source_view source.now) margin.now
         (c_block (source_view source.now) (margin.now ++ tab) at (block_view statements.now))
         (block_end (source_view source.now) at (block_view statements.now))) }
-    ensures next { IfOk result (λ next. next ≡ behind landmark.RightBrace (source_view source.now)
+    ensures next { IfOk result (λ next. next ≡ place_after landmark.RightBrace (source_view source.now)
         (block_end (source_view source.now) at (block_view statements.now))) }
 {
     let end = append_inner(source, margin, at, statements, out)?;

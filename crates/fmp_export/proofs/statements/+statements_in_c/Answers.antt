@@ -3,7 +3,7 @@ use Rattle.std.proofs.lemmas.Result.{IfOk-weaker, on_ok_weaker}
 use Rattle.fmp_tasklang.specs.Views.{expression_view, block_view}
 use Rattle.fmp_scopes.proofs.ViewTrees.{view-If, view-IfElse, view-While}
 use Rattle.fmp_export.specs.declared.source.Landmark.TheVariants as landmark
-use Rattle.fmp_export.specs.Sources.{behind, source_view}
+use Rattle.fmp_export.specs.Sources.{place_after, source_view}
 use Rattle.fmp_export.specs.Statements.{block_end, c_block, c_choice, c_closed, c_head, c_statement, choice_end}
 use Rattle.fmp_export.specs.Statements.{statement_end}
 use Rattle.fmp_export.specs.Words.{tab}
@@ -20,8 +20,8 @@ append_statement-returns-in_ok-next-in-If-clause-text t c =
     c.deref-in-If.ensures.value in
     let b = block_view c.deref-in-If.result.now in
     let p = c_head s margin (codes "if (") at (expression_view c.in-If.condition) in
-    let q = c_closed s margin (c_block s (margin ++ tab) (behind landmark.LeftBrace s at) b)
-    (block_end s (behind landmark.LeftBrace s at) b) in
+    let q = c_closed s margin (c_block s (margin ++ tab) (place_after landmark.LeftBrace s at) b)
+    (block_end s (place_after landmark.LeftBrace s at) b) in
     on_ok_weaker c.append_closed.result
     (λ e. two c.args.out.now.items p q _ _ c.in_ok-next-in-If.ensures.text
     (e ∙ ap (λ i. c.append_head.new.out.items ++ c_closed s margin (c_block s (margin ++ tab) i b) (block_end s i b))
@@ -37,7 +37,7 @@ append_statement-returns-in_ok-next-in-If-clause-next t c =
     c.deref-in-If.ensures.value in
     let b = block_view c.deref-in-If.result.now in
     IfOk-weaker c.append_closed.result _ _
-    (λ next e. e ∙ ap (λ i. behind landmark.RightBrace s (block_end s i b)) c.in_ok-next-in-If.ensures.next
+    (λ next e. e ∙ ap (λ i. place_after landmark.RightBrace s (block_end s i b)) c.in_ok-next-in-If.ensures.next
     ∙ ap (λ x. statement_end s at x) (sym view)) c.append_closed.ensures.next
 
 pub append_statement-returns-in_ok-next-in-IfElse-2-clause-text :
@@ -55,8 +55,8 @@ append_statement-returns-in_ok-next-in-IfElse-2-clause-text t c =
     let start = c.in_ok-next-in-IfElse.ensures.next in
     let end = c.in_ok-next-in-IfElse-2.ensures.next ∙ ap (λ i. block_end s i b) start in
     let p = c_head s margin (codes "if (") at (expression_view c.deref-in-IfElse.result.now) in
-    let q = c_block s (margin ++ tab) (behind landmark.LeftBrace s at) b in
-    let r = c_choice s margin (block_end s (behind landmark.LeftBrace s at) b) o in
+    let q = c_block s (margin ++ tab) (place_after landmark.LeftBrace s at) b in
+    let r = c_choice s margin (block_end s (place_after landmark.LeftBrace s at) b) o in
     on_ok_weaker c.append_choice.result
     (λ e. two c.args.out.now.items p (q ++ r) _ _ c.in_ok-next-in-IfElse.ensures.text
     (two c.append_head-in-IfElse.new.out.items q r _ _
@@ -92,8 +92,8 @@ append_statement-returns-in_ok-next-in-While-clause-text t c =
     c.deref-in-While.ensures.value in
     let b = block_view c.deref-in-While.result.now in
     let p = c_head s margin (codes "fmp_while (") at (expression_view c.in-While.condition) in
-    let q = c_closed s margin (c_block s (margin ++ tab) (behind landmark.LeftBrace s at) b)
-    (block_end s (behind landmark.LeftBrace s at) b) in
+    let q = c_closed s margin (c_block s (margin ++ tab) (place_after landmark.LeftBrace s at) b)
+    (block_end s (place_after landmark.LeftBrace s at) b) in
     on_ok_weaker c.append_closed-in-While.result
     (λ e. two c.args.out.now.items p q _ _ c.in_ok-next-in-While.ensures.text
     (e
@@ -113,5 +113,5 @@ append_statement-returns-in_ok-next-in-While-clause-next t c =
     c.deref-in-While.ensures.value in
     let b = block_view c.deref-in-While.result.now in
     IfOk-weaker c.append_closed-in-While.result _ _
-    (λ next e. e ∙ ap (λ i. behind landmark.RightBrace s (block_end s i b)) c.in_ok-next-in-While.ensures.next
+    (λ next e. e ∙ ap (λ i. place_after landmark.RightBrace s (block_end s i b)) c.in_ok-next-in-While.ensures.next
     ∙ ap (λ x. statement_end s at x) (sym view)) c.append_closed-in-While.ensures.next
