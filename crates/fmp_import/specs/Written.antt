@@ -101,9 +101,8 @@ note_end says why = codes "`" ++ (says ++ (why ++ codes "\n"))
 unfoldable pub note_text : (line : ℕ) (word says why : List ℕ) → List ℕ
 note_text line word says why = note_front line word ++ note_end says why
 
--- cfg:LINE: `WORD` is left out since a constant has no value
-unfoldable pub unknown_text : (line : ℕ) (word constant : List ℕ) → List ℕ
-unknown_text line word constant =
+-- cfg:LINE: `WORD` is left out: `NAME` and why
+unfoldable pub lacking_text : (line : ℕ) (word name why : List ℕ) → List ℕ
+lacking_text line word name why =
     note_front line word
-    ++ (codes "` is left out: the constant `"
-    ++ (map shown_byte constant ++ codes "` is unknown; `-D` gives it a value\n"))
+    ++ (codes "` is left out: `" ++ (map shown_byte name ++ note_end (codes " ") why))

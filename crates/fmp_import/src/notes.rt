@@ -1,6 +1,6 @@
 //! The list of what was left out or changed.
 ghost use Rattle.std.specs.Prelude.{◌≡◌, ◌++◌, OnOk};
-ghost use Rattle.fmp_import.specs.Written.{note_end, note_front, note_text, unknown_text};
+ghost use Rattle.fmp_import.specs.Written.{lacking_text, note_end, note_front, note_text};
 
 use crate::objects::Changes;
 use crate::text::{append, append_count, append_shown};
@@ -8,6 +8,12 @@ use std::alloc::AllocError;
 
 /// Before why something is left out.
 pub const LEFT_OUT: &str = " is left out: ";
+
+/// Why something is left out, after the name of a constant that is unknown.
+pub const UNKNOWN: &str = "is an unknown constant; `-D` gives it a value";
+
+/// Why something is left out, after the name of a macro.
+pub const HAS_ARGUMENTS: &str = "has arguments, and such macros are not read";
 
 /// Before what is said of something that is written, or counts.
 pub const CHANGED: &str = ": ";
@@ -48,19 +54,21 @@ pub fn append_note(
     append_end(says, why, out)
 }
 
-/// Appends that what a line makes is left out, since this constant is unknown: a word of the line, and the constant.
-pub fn append_unknown(
+/// Appends that what a line makes is left out for a name in its values: a word of the line, the name, and why.
+#[tactic(auto, unfolding(crate::specs::Written::lacking_text))]
+pub fn append_lacking(
     line: usize,
     word: &[u8],
-    constant: &[u8],
+    name: &[u8],
+    why: &str,
     out: &mut Vec<u8>,
 ) -> Result<(), AllocError>
-    ensures { OnOk result (out.new.items ≡ out.old.items ++ unknown_text line word.now constant.now) }
+    ensures { OnOk result (out.new.items ≡ out.old.items ++ lacking_text line word.now name.now why.now) }
 {
     append_front(line, word, out)?;
-    append(b"` is left out: the constant `", out)?;
-    append_shown(constant, out)?;
-    append(b"` is unknown; `-D` gives it a value\n", out)
+    append(b"` is left out: `", out)?;
+    append_shown(name, out)?;
+    append_end(" ", why, out)
 }
 
 /// Appends what an object has otherwise than its source.
@@ -77,7 +85,7 @@ pub fn append_changes(
         ),
         (
             changes.information,
-            "its extended information is no known number, and becomes 0",
+            "its extended information is no known number of 32 bits, and becomes 0",
         ),
         (
             changes.entry,

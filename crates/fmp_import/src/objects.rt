@@ -17,6 +17,8 @@ pub enum Omission {
     Wrong(&'static str),
     /// The value of this constant is unknown.
     Unknown(Lexeme),
+    /// One of its values has this macro with arguments.
+    HasArguments(Lexeme),
 }
 
 impl From<AllocError> for Omission {
@@ -113,6 +115,7 @@ impl Parameters<'_> {
         match value_of(self.alloc, self.reading, self.reading.lexemes_of(field)) {
             Ok(value) => Ok(value),
             Err(NoValue::Unknown(lexeme)) => Err(Omission::Unknown(lexeme)),
+            Err(NoValue::HasArguments(lexeme)) => Err(Omission::HasArguments(lexeme)),
             Err(NoValue::Form) => Err(NOT_READ),
             Err(NoValue::Memory) => Err(Omission::Memory),
         }
@@ -167,7 +170,7 @@ impl Parameters<'_> {
     fn bits(&self, field: SourceField) -> Result<(i64, bool), Omission> {
         match self.value(field) {
             Ok(value) => Ok((value, false)),
-            Err(Omission::Unknown(_)) => self.known_bits(field),
+            Err(Omission::Unknown(_) | Omission::HasArguments(_)) => self.known_bits(field),
             Err(omission) => Err(omission),
         }
     }
@@ -221,7 +224,7 @@ impl Parameters<'_> {
         match self.ranged(field, -i32::MAX, i32::MAX, "") {
             Ok(number) => Ok((PlanItem::Number(number), false)),
             Err(Omission::Memory) => Err(Omission::Memory),
-            Err(Omission::Wrong(_) | Omission::Unknown(_)) => Ok((PlanItem::Number(0), true)),
+            Err(_) => Ok((PlanItem::Number(0), true)),
         }
     }
 

@@ -10,6 +10,8 @@ use std::alloc::{AllocError, AllocFailed, Global};
 pub enum NoValue {
     /// This name is unknown.
     Unknown(Lexeme),
+    /// This name has arguments, as that of a macro with parameters.
+    HasArguments(Lexeme),
     /// It is not of the form that is read here, or its value is out of range.
     Form,
     /// Memory ran out.
@@ -187,6 +189,16 @@ fn append_named(
     Ok(())
 }
 
+/// Whether arguments in parentheses stand after the name at a place.
+fn has_arguments(lexemes: &[Lexeme], at: usize) -> bool
+    requires { at < length lexemes.now }
+{
+    match lexemes.get(at + 1) {
+        Some(next) => matches!(next.kind, LexemeKind::Sign(b'(')),
+        None => false,
+    }
+}
+
 /// Adds the terms of the lexeme at a place, and says where the next one is.
 fn append_terms(
     reading: SourceReading<'_>,
@@ -201,6 +213,9 @@ fn append_terms(
         LexemeKind::Number => {
             let value = number_value(reading.bytes(lexeme)).ok_or(NoValue::Form)?;
             terms.push(Term::Number(value))?;
+        }
+        LexemeKind::Word if has_arguments(lexemes, at) => {
+            return Err(NoValue::HasArguments(lexeme));
         }
         LexemeKind::Word => append_named(reading, lexeme, terms)?,
         LexemeKind::Sign(b'(') => match cast_end(reading, lexemes, at) {

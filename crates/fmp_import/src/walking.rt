@@ -4,7 +4,9 @@ use crate::defining::{Source, header_named, name_defined, why_skipped};
 use crate::directives::{enabled_lexemes, included_name, leaves_out};
 use crate::importing::Header;
 use crate::lexemes::{Lexeme, LexemeKind, first_line};
-use crate::notes::{CHANGED, LEFT_OUT, append_changes, append_note, append_unknown};
+use crate::notes::{
+    CHANGED, HAS_ARGUMENTS, LEFT_OUT, UNKNOWN, append_changes, append_lacking, append_note,
+};
 use crate::objects::{Changes, Omission, Parameters, SourceObject};
 use crate::placing::PlacedObjects;
 use crate::plan::SourceClass;
@@ -120,12 +122,13 @@ impl<'a> ConfigurationWalk<'a> {
         )
     }
 
-    /// Says that an object is left out since it has a constant that is unknown.
-    fn note_unknown(&mut self, at: Lexeme, constant: Lexeme) -> Result<(), AllocError> {
-        append_unknown(
+    /// Says that an object is left out for a name in one of its values.
+    fn note_lacking(&mut self, at: Lexeme, name: Lexeme, why: &str) -> Result<(), AllocError> {
+        append_lacking(
             at.line,
             bytes_of(self.text, at.span),
-            bytes_of(self.text, constant.span),
+            bytes_of(self.text, name.span),
+            why,
             &mut self.notes,
         )
     }
@@ -222,7 +225,8 @@ impl<'a> ConfigurationWalk<'a> {
             },
             Err(Omission::Memory) => Err(AllocError),
             Err(Omission::Wrong(why)) => self.note(at, LEFT_OUT, why),
-            Err(Omission::Unknown(constant)) => self.note_unknown(at, constant),
+            Err(Omission::Unknown(constant)) => self.note_lacking(at, constant, UNKNOWN),
+            Err(Omission::HasArguments(name)) => self.note_lacking(at, name, HAS_ARGUMENTS),
         }
     }
 
