@@ -15,7 +15,7 @@ const ROUNDS: usize = 32;
 
 /// A configuration: its text, its lexemes, and the files that it includes.
 #[derive(Clone, Copy)]
-pub struct Source<'a> {
+pub struct LexedSource<'a> {
     pub text: &'a [u8],
     pub lexemes: &'a [Lexeme],
     pub headers: &'a [Header],
@@ -81,7 +81,7 @@ fn take_line(
 /// Adds the constants that name no unknown one.
 fn take_known(
     alloc: Global,
-    source: Source<'_>,
+    source: LexedSource<'_>,
     constants: &mut Constants,
 ) -> Result<(), AllocError>
     ensures { HasMore constants.old constants.new }
@@ -114,7 +114,7 @@ fn take_again(
 /// after them. Of the names that lines define again these lines count.
 pub fn take_constants(
     alloc: Global,
-    source: Source<'_>,
+    source: LexedSource<'_>,
     lines: &[RenewedLine],
     constants: &mut Constants,
 ) -> Result<(), AllocError>

@@ -5,7 +5,7 @@ ghost use Rattle.fmp_import.specs.Imports as spec;
 ghost use Rattle.fmp_import.specs.Written.{block_view, plan_text};
 
 use crate::constants::Constants;
-use crate::defining::{Source, take_constants};
+use crate::defining::{LexedSource, take_constants};
 use crate::directives::{enabled_lexemes, included_name};
 use crate::lexemes::{LexemeKind, lexemes};
 use crate::plan::{Block, TextSpan};
@@ -135,7 +135,7 @@ fn drafted(
     mut constants: Constants,
 ) -> Result<Draft, AllocError> {
     let found = enabled_lexemes(alloc, text)?;
-    let source = Source {
+    let source = LexedSource {
         text,
         lexemes: &found,
         headers,

@@ -1,6 +1,6 @@
 //! Names that a configuration defines again: of two lines the last one before a value counts, as in C.
 use crate::constants::Constants;
-use crate::defining::{RenewedLine, Source, take_constants};
+use crate::defining::{LexedSource, RenewedLine, take_constants};
 use crate::plan::TextSpan;
 use fmp_base::Name;
 use std::alloc::{AllocError, Global};
@@ -64,7 +64,7 @@ impl Renewals {
     pub fn refresh(
         &mut self,
         alloc: Global,
-        source: Source<'_>,
+        source: LexedSource<'_>,
         constants: &mut Constants,
     ) -> Result<(), AllocError> {
         if !self.is_stale {

@@ -1,6 +1,6 @@
 //! A configuration of C is gone over, statement by statement.
 use crate::constants::{Constants, Defines};
-use crate::defining::{Source, header_named, name_defined, why_skipped};
+use crate::defining::{LexedSource, header_named, name_defined, why_skipped};
 use crate::directives::{enabled_lexemes, included_name, leaves_out};
 use crate::importing::Header;
 use crate::lexemes::{Lexeme, LexemeKind, first_line};
@@ -72,7 +72,7 @@ impl<'a> ConfigurationWalk<'a> {
     /// A text that is not gone over yet. Of the constants this many are known beforehand.
     pub fn new(
         alloc: Global,
-        source: Source<'a>,
+        source: LexedSource<'a>,
         constants: Constants,
         given: usize,
     ) -> ConfigurationWalk<'a> {
@@ -95,7 +95,7 @@ impl<'a> ConfigurationWalk<'a> {
 
     /// Makes the constants those at the place that is reached.
     fn refresh(&mut self) -> Result<(), AllocError> {
-        let source = Source {
+        let source = LexedSource {
             text: self.text,
             lexemes: self.lexemes,
             headers: self.headers,

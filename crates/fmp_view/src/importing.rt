@@ -35,7 +35,7 @@ struct IncludedFile {
 
 /// A configuration that is imported, and the files that it includes.
 #[derive(Clone, Copy)]
-struct Source<'a> {
+struct ImportSource<'a> {
     text: &'a [u8],
     included: &'a [IncludedFile],
 }
@@ -109,7 +109,7 @@ fn constants_of(alloc: Global, words: &[&str]) -> Result<Option<Constants>, Allo
 fn imported<O: Outside>(
     alloc: Global,
     outside: &O,
-    source: Source<'_>,
+    source: ImportSource<'_>,
     constants: Constants,
 ) -> Result<Imported, ImportFault>
     ensures { IsImported source.entry.text.now result }
@@ -139,7 +139,7 @@ fn import_text<O: Outside>(
     alloc: Global,
     outside: &mut O,
     out: Option<&str>,
-    source: Source<'_>,
+    source: ImportSource<'_>,
     constants: Constants,
 ) -> u8
     ensures { result ≡ 0 → HasImportedText source.entry.text.now out.entry (O.done outside.old)
@@ -211,7 +211,7 @@ fn import_source<O: Outside>(
     alloc: Global,
     outside: &mut O,
     out: Option<&str>,
-    source: Source<'_>,
+    source: ImportSource<'_>,
     constants: Constants,
 ) -> u8
     ensures { result ≡ 0 → HasImportedSource (O.files outside.old)
@@ -237,7 +237,7 @@ fn import_read<O: Outside>(
 {
     match included_files(alloc, importing.cfg, text) {
         Ok(included) => {
-            let source = Source {
+            let source = ImportSource {
                 text,
                 included: &included,
             };
