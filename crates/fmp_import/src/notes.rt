@@ -12,8 +12,8 @@ pub const LEFT_OUT: &str = " is left out: ";
 /// Why something is left out, after the name of a constant that is unknown.
 pub const UNKNOWN: &str = "is an unknown constant; `-D` gives it a value";
 
-/// Why something is left out, after the name of a macro.
-pub const HAS_ARGUMENTS: &str = "has arguments, and such macros are not read";
+/// Why something is left out, after a name that has arguments.
+pub const HAS_ARGUMENTS: &str = "has arguments, which are not read here";
 
 /// Before what is said of something that is written, or counts.
 pub const CHANGED: &str = ": ";

@@ -17,7 +17,7 @@ pub enum Omission {
     Wrong(&'static str),
     /// The value of this constant is unknown.
     Unknown(Lexeme),
-    /// One of its values has this macro with arguments.
+    /// One of its values has this name with arguments.
     HasArguments(Lexeme),
 }
 
@@ -224,7 +224,9 @@ impl Parameters<'_> {
         match self.ranged(field, -i32::MAX, i32::MAX, "") {
             Ok(number) => Ok((PlanItem::Number(number), false)),
             Err(Omission::Memory) => Err(Omission::Memory),
-            Err(_) => Ok((PlanItem::Number(0), true)),
+            Err(Omission::Wrong(_) | Omission::Unknown(_) | Omission::HasArguments(_)) => {
+                Ok((PlanItem::Number(0), true))
+            }
         }
     }
 
